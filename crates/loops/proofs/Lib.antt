@@ -1,0 +1,4 @@
+pub mod Cases
+pub mod LoopLaws
+pub mod RegionLaws
+pub mod CellLaws

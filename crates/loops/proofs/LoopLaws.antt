@@ -1,0 +1,83 @@
+-- The laws of `loop`, which stand for the induction that each proof of a loop would do. Assumes nothing.
+use mathlib.Core.Path.{_≡_, sym, ap, _∙_}
+use Prim.Native.Nat.{ℕ, zero, suc, _+_, _-_, _≤_, _<_, max}
+use native.Mathlib.Omega.{arith}
+use Rattle.loops.specs.Loop.{turns, loop, Run, on, out, turn}
+
+module _ {S : Type 0} (f : ℕ → S → S) (a : ℕ) where
+  -- no turn yet
+  pub loop-none : (s : S) → s ≡ loop f a a s
+  unfolding loop turns
+  loop-none s = ap (λ (n : ℕ). turns f a n s) (let e : 0 ≡ a - a = omega arith in e)
+
+  -- one more turn
+  pub loop-more : (i : ℕ) (s : S) → a ≤ i → f i (loop f a i s) ≡ loop f a (i + 1) s
+  unfolding loop turns
+  loop-more i s h =
+      let e : i + 1 - a ≡ suc (i - a) = omega arith in
+      let k : a + (i - a) ≡ i = omega arith in
+      sym (ap (λ (n : ℕ). turns f a n s) e ∙ ap (λ (n : ℕ). f n (turns f a (i - a) s)) k)
+
+  -- where the code's counter stops is where the loop ends, also where the range is empty
+  pub loop-end : (i e : ℕ) (s : S) → a ≤ i → e ≤ i → i ≤ max a e → loop f a i s ≡ loop f a e s
+  unfolding loop
+  loop-end i e s h k l = ap (λ (n : ℕ). turns f a n s) (let d : i - a ≡ e - a = omega arith in d)
+
+  turns-keep : (P : S → Type 0) (n : ℕ) → ((i : ℕ) (s : S) → a ≤ i → i < a + n → P s → P (f i s)) → (s : S) → P s → P (turns f a n s)
+  unfolding turns
+  turns-keep P zero h s p = p
+  turns-keep P (suc n) h s p =
+      h (a + n) (turns f a n s) (omega arith) (omega arith) (turns-keep P n (λ i s b c q. h i s b (omega arith) q) s p)
+
+  -- what each turn keeps, the loop keeps
+  pub loop-keeps : (P : S → Type 0) (e : ℕ) → ((i : ℕ) (s : S) → a ≤ i → i < e → P s → P (f i s)) → (s : S) → P s → P (loop f a e s)
+  unfolding loop
+  loop-keeps P e h s p = turns-keep P (e - a) (λ i s b c q. h i s b (omega arith) q) s p
+
+-- The invariant of a counting loop `for k in a..e`: the state `t` at the counter k is what k - a turns leave of `s`.
+pub record Going {S : Type 0} (f : ℕ → S → S) (a e : ℕ) (s t : S) (k : ℕ) : Type 0 where
+  pub low : a ≤ k
+  pub high : k ≤ max a e
+  pub is : t ≡ loop f a k s
+
+module _ {S : Type 0} (f : ℕ → S → S) (a e : ℕ) (s : S) where
+  -- answers `loop-holds`
+  pub going-none : Going f a e s s a
+  going-none = record { low = omega arith; high = omega arith; is = loop-none f a s }
+
+  -- answers `loop-again`: t′ is the state after the turn
+  pub going-more : (t t′ : S) (k : ℕ) → Going f a e s t k → k < e → t′ ≡ f k t → Going f a e s t′ (k + 1)
+  going-more t t′ k g h d = record {
+    low = omega (arith, g .low);
+    high = omega arith;
+    is = d ∙ ap (f k) (g .is) ∙ loop-more f a k s (g .low);
+  }
+
+  -- answers `returns`
+  pub going-end : (t : S) (k : ℕ) → Going f a e s t k → e ≤ k → t ≡ loop f a e s
+  going-end t k g h = g .is ∙ loop-end f a k e s (g .low) h (g .high)
+
+-- ---- a loop that is left from inside
+
+module _ {S A : Type 0} (f : ℕ → S → Run S A) (a : ℕ) where
+  turns-stay : (n m : ℕ) (s : Run S A) (v : A) → turns (turn f) a n s ≡ out v → turns (turn f) a (n + m) s ≡ out v
+  unfolding turns turn
+  turns-stay n zero s v e = ap (λ (k : ℕ). turns (turn f) a k s) (let z : n + zero ≡ n = omega arith in z) ∙ e
+  turns-stay n (suc m) s v e =
+      ap (λ (k : ℕ). turns (turn f) a k s) (let z : n + suc m ≡ suc (n + m) = omega arith in z) ∙ ap (turn f (a + (n + m))) (turns-stay n m s v e)
+
+  -- once out, it stays out
+  pub out-stays : (k e : ℕ) (s : Run S A) (v : A) → a ≤ k → k ≤ e → loop (turn f) a k s ≡ out v → loop (turn f) a e s ≡ out v
+  unfolding loop
+  out-stays k e s v h b d = ap (λ (n : ℕ). turns (turn f) a n s) (let z : e - a ≡ (k - a) + (e - k) = omega arith in z) ∙ turns-stay (k - a) (e - k) s v d
+
+  -- answers the place that a `break` leads to: at the counter k the turn gives v
+  pub going-out : (e : ℕ) (s : Run S A) (t : S) (k : ℕ) (v : A) → Going (turn f) a e s (on t) k → k < e → f k t ≡ out v → loop (turn f) a e s ≡ out v
+  unfolding turn
+  going-out e s t k v g h d =
+      out-stays (k + 1) e s v (omega (arith, g .low)) (omega arith) (sym (loop-more (turn f) a k s (g .low)) ∙ ap (turn f k) (sym (g .is)) ∙ d)
+
+  -- answers `loop-again` of such a loop
+  pub going-on : (e : ℕ) (s : Run S A) (t t′ : S) (k : ℕ) → Going (turn f) a e s (on t) k → k < e → on t′ ≡ f k t → Going (turn f) a e s (on t′) (k + 1)
+  unfolding turn
+  going-on e s t t′ k g h d = going-more (turn f) a e s (on t) (on t′) k g h d

@@ -1,0 +1,4 @@
+-- What every layer cites: a counting loop as a fold, the parts of a slice, the cells of a map.
+pub mod Loop
+pub mod Regions
+pub mod Cells

@@ -1,0 +1,5 @@
+pub mod WholeLaws
+pub mod PartLaws
+pub mod NarrowLaws
+pub mod RootLaws
+pub mod HalfLaws
