@@ -1,2 +1,3 @@
 pub mod RoundLaws
 pub mod OrderLaws
+pub mod IndexLaws

@@ -25,37 +25,37 @@ module _ (x y z p q r : ℕ) (P : 0 < p) (Q : 0 < q) where
       (lt-of-le-of-lt (le-of-eq (mul-right-comm z p q))
       (lt-of-lt-of-le (mul-lt-mul-of-pos-right h P) (omega (arith, mul-right-comm y r p, mul-right-comm x r q, mul-le-mul-right r k))))
 
-zero-of : (x q : ℕ) → 0 < q → x * q ≡ 0 → x ≡ 0
+pub zero-of : (x q : ℕ) → 0 < q → x * q ≡ 0 → x ≡ 0
 zero-of zero q Q h = refl
 zero-of (suc n) q Q h = absurd (let k : 0 < suc n * q = mul-pos (let z : 0 < suc n = omega arith in z) Q in let z : ⊥ = omega arith in z)
 
 -- ---- with signs
 
-abbrev Le : Bool → ℕ → Bool → ℕ → Type 0
+abbrev pub Le : Bool → ℕ → Bool → ℕ → Type 0
 Le false a false b = a ≤ b
 Le false a true b = (a ≡ 0) × (b ≡ 0)
 Le true a false b = Unit
 Le true a true b = b ≤ a
 
-abbrev Lt : Bool → ℕ → Bool → ℕ → Type 0
+abbrev pub Lt : Bool → ℕ → Bool → ℕ → Type 0
 Lt false a false b = a < b
 Lt false a true b = ⊥
 Lt true a false b = 0 < a + b
 Lt true a true b = b < a
 
-le-of : (s : Bool) (a : ℕ) (t : Bool) (b : ℕ) → below s a t b || level s a t b ≡ true → Le s a t b
+pub le-of : (s : Bool) (a : ℕ) (t : Bool) (b : ℕ) → below s a t b || level s a t b ≡ true → Le s a t b
 le-of false a false b h = either (ltb a b) _ h (λ e. let k = ltb-true a b e in omega arith) (λ e. let k = eqb-true a b (both _ _ e .0) in omega arith)
 le-of false a true b h = let k = eqb-true a b (both _ _ h .0) in let n = eqb-true a 0 (both (eqb a b) _ h .1) in (n, sym k ∙ n)
 le-of true a false b h = tt
 le-of true a true b h = either (ltb b a) _ h (λ e. let k = ltb-true b a e in omega arith) (λ e. let k = eqb-true a b (both _ _ e .0) in omega arith)
 
-lt-of : (s : Bool) (a : ℕ) (t : Bool) (b : ℕ) → below s a t b ≡ true → Lt s a t b
+pub lt-of : (s : Bool) (a : ℕ) (t : Bool) (b : ℕ) → below s a t b ≡ true → Lt s a t b
 lt-of false a false b h = ltb-true a b h
 lt-of false a true b h = never h
 lt-of true a false b h = ltb-true 0 (a + b) h
 lt-of true a true b h = ltb-true b a h
 
-lt-back : (s : Bool) (a : ℕ) (t : Bool) (b : ℕ) → Lt s a t b → below s a t b ≡ true
+pub lt-back : (s : Bool) (a : ℕ) (t : Bool) (b : ℕ) → Lt s a t b → below s a t b ≡ true
 lt-back false a false b h = lt-ltb a b h
 lt-back false a true b h = absurd h
 lt-back true a false b h = lt-ltb 0 (a + b) h
@@ -135,7 +135,7 @@ le-lt (fin s m e) (fin t n d) (fin u o c) h k =
 
 -- ---- x ≤ y ≤ z
 
-le-back : (s : Bool) (a : ℕ) (t : Bool) (b : ℕ) → Le s a t b → below s a t b || level s a t b ≡ true
+pub le-back : (s : Bool) (a : ℕ) (t : Bool) (b : ℕ) → Le s a t b → below s a t b || level s a t b ≡ true
 le-back false a false b h =
     by-cases (ltb a b) (λ e. rw e) (λ e. let k = ltb-false a b e in let z : a ≡ b = omega arith in rw (e, eq-eqb a b z))
 le-back false a true b h = let z : a ≡ b = omega arith in rw (eq-eqb a b z, eq-eqb a 0 (h .0))
