@@ -1,3 +1,4 @@
 pub mod RoundLaws
 pub mod OrderLaws
 pub mod IndexLaws
+pub mod NextLaws
