@@ -1,4 +1,5 @@
 pub mod RoundLaws
 pub mod OrderLaws
 pub mod IndexLaws
+pub mod SignLaws
 pub mod NextLaws

@@ -9,14 +9,15 @@ use native.Mathlib.Omega.{arith}
 use lib.IntN.{ℤ}
 use lib.Dec.{T, ltb, leb, eqb, ltb→lt}
 use lib.Pow.{pow-add, pow-pos}
-use lib.Ieee.{Float, nan, inf, fin, Format, binary32, binary64, prec, emax, low, hid, ones, up, down, size, lt, eq, le, isNan, fits, ofBits, toBits}
+use lib.Ieee.{Float, nan, inf, fin, Format, binary32, binary64, prec, emax, low, hid, ones, up, down, size, lt, eq, le, fits, ofBits, toBits}
 use lib.Ieee.Digits.{size-lt, size-le, size-reaches}
 use lib.Ieee.Fits.{kept-lt, down-pos, and-r}
 use lib.Ieee.Nearest.{div-mono}
 use lib.Ieee.Bits.{ofBits-toBits}
 use Rattle.loops.proofs.Cases.{by-cases, never}
 use Rattle.floats.proofs.RoundLaws.{written}
-use Rattle.floats.proofs.OrderLaws.{le-of, le-back, lt-irrefl, lt-to-le, not-lt-le, lt-numbers}
+use Rattle.floats.proofs.SignLaws.{unsigned, number, signed-under, sign-up}
+use Rattle.floats.proofs.OrderLaws.{le-of, lt-irrefl, lt-to-le, not-lt-le, lt-numbers}
 
 -- ---- the pattern of a size in units of the format's smallest value
 
@@ -58,18 +59,6 @@ over binary32 = refl
 over binary64 = refl
 
 -- ---- patterns of values
-
--- the sign is clear
-abbrev pub unsigned : Float → Bool
-unsigned nan = false
-unsigned (inf s) = not s
-unsigned (fin s m e) = not s
-
-number : (x : Float) → T (unsigned x) → isNan x ≡ false
-unfolding isNan
-number nan a = absurd a
-number (inf s) a = refl
-number (fin s m e) a = refl
 
 in-range : (f : Format) (s : Bool) (m : ℕ) (e : ℤ) → T (fits f (fin s m e)) → m * up e < 2 ^ suc (emax f) * down e
 unfolding fits
@@ -117,35 +106,6 @@ bits-le f x y p q a b h =
     by-cases (lt y x) (λ e. absurd (not-le-of-lt (bits-lt f y x q p b a e) h)) (λ e. not-lt-le x y (number x a) (number y b) e)
 
 -- ---- neighbours
-
-signed-under : (x y : Float) → isNan x ≡ false → T (not (unsigned x)) → T (unsigned y) → le x y ≡ true
-unfolding le lt eq isNan
-signed-under nan y n a b = never (sym n)
-signed-under (inf true) nan n a b = absurd b
-signed-under (inf true) (inf true) n a b = absurd b
-signed-under (inf true) (inf false) n a b = refl
-signed-under (inf true) (fin t o d) n a b = refl
-signed-under (inf false) y n a b = absurd a
-signed-under (fin true m e) nan n a b = absurd b
-signed-under (fin true m e) (inf true) n a b = absurd b
-signed-under (fin true m e) (inf false) n a b = refl
-signed-under (fin true m e) (fin true o d) n a b = absurd b
-signed-under (fin true m e) (fin false o d) n a b = le-back true (m * up e * down d) false (o * up d * down e) tt
-signed-under (fin false m e) y n a b = absurd a
-
-sign-up : (x y : Float) → T (unsigned x) → lt x y ≡ true → T (unsigned y)
-unfolding lt
-sign-up nan y a h = absurd a
-sign-up (inf true) y a h = absurd a
-sign-up (inf false) nan a h = never h
-sign-up (inf false) (inf t) a h = never h
-sign-up (inf false) (fin t o d) a h = never h
-sign-up (fin true m e) y a h = absurd a
-sign-up (fin false m e) nan a h = never h
-sign-up (fin false m e) (inf true) a h = never h
-sign-up (fin false m e) (inf false) a h = tt
-sign-up (fin false m e) (fin true o d) a h = never h
-sign-up (fin false m e) (fin false o d) a h = tt
 
 -- hi is the next value after lo, and x is any value: below hi is at most lo
 pub none-between : (f : Format) (lo hi x : Float) → T (fits f lo) → T (fits f hi) → T (fits f x) → T (unsigned lo) → toBits f hi ≡ toBits f lo + 1 → lt x hi ≡ true → le x lo ≡ true
