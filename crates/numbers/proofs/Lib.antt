@@ -3,3 +3,4 @@ pub mod PartLaws
 pub mod NarrowLaws
 pub mod RootLaws
 pub mod HalfLaws
+pub mod RootMono
