@@ -2,4 +2,5 @@ pub mod RoundLaws
 pub mod OrderLaws
 pub mod IndexLaws
 pub mod SignLaws
+pub mod ExactLaws
 pub mod NextLaws

@@ -2,20 +2,20 @@
 -- Assumes nothing.
 use mathlib.Core.Path.{_≡_, refl, sym, ap, _∙_, subst}
 use mathlib.Core.Logic.{inl, inr}
-use mathlib.Core.Bool.{Bool, true, false, not, _&&_, true≢false}
-use Prim.Native.Nat.{ℕ, zero, suc, _+_, _-_, _*_, _/_, _%_, _^_, _≤_, _<_}
-use native.Mathlib.Nat.{le-trans, le-of-eq, le-of-lt, lt-of-le-of-lt, lt-of-lt-of-le, not-le-of-lt, eq-or-lt-of-le, zero-add, zero-mul, mul-comm, mul-right-comm, mul-le-mul-right, mul-lt-mul-of-pos-right, mul-pos, le-div-iff-mul-le, div-lt-iff-lt-mul}
+use mathlib.Core.Bool.{Bool, true, false, not, true≢false}
+use Prim.Native.Nat.{ℕ, suc, _+_, _-_, _*_, _/_, _^_, _≤_, _<_}
+use native.Mathlib.Nat.{le-trans, le-of-eq, le-of-lt, lt-of-le-of-lt, lt-of-lt-of-le, not-le-of-lt, eq-or-lt-of-le, zero-add, mul-comm, mul-right-comm, mul-le-mul-right, mul-lt-mul-of-pos-right, le-div-iff-mul-le, div-lt-iff-lt-mul}
 use native.Mathlib.Omega.{arith}
-use lib.IntN.{ℤ}
-use lib.Dec.{T, ltb, leb, eqb, ltb→lt}
+use lib.Dec.{T}
 use lib.Pow.{pow-add, pow-pos}
 use lib.Ieee.{Float, nan, inf, fin, Format, binary32, binary64, prec, emax, low, hid, ones, up, down, size, lt, eq, le, fits, ofBits, toBits}
 use lib.Ieee.Digits.{size-lt, size-le, size-reaches}
-use lib.Ieee.Fits.{kept-lt, down-pos, and-r}
+use lib.Ieee.Fits.{kept-lt, down-pos}
 use lib.Ieee.Nearest.{div-mono}
 use lib.Ieee.Bits.{ofBits-toBits}
 use Rattle.loops.proofs.Cases.{by-cases, never}
 use Rattle.floats.proofs.RoundLaws.{written}
+use Rattle.floats.proofs.ExactLaws.{fits-range}
 use Rattle.floats.proofs.SignLaws.{unsigned, number, signed-under, sign-up}
 use Rattle.floats.proofs.OrderLaws.{le-of, lt-irrefl, lt-to-le, not-lt-le, lt-numbers}
 
@@ -60,12 +60,6 @@ over binary64 = refl
 
 -- ---- patterns of values
 
-in-range : (f : Format) (s : Bool) (m : ℕ) (e : ℤ) → T (fits f (fin s m e)) → m * up e < 2 ^ suc (emax f) * down e
-unfolding fits
-in-range f s zero e t = lt-of-le-of-lt (le-of-eq (zero-mul (up e))) (mul-pos (pow-pos (suc (emax f))) (down-pos e))
-in-range f s (suc m) e t =
-    ltb→lt (suc m * up e) (2 ^ suc (emax f) * down e) (and-r (eqb (suc m % 2) 1 && ltb (suc m) (2 ^ prec f) && leb (down e) (2 ^ low f)) (ltb (suc m * up e) (2 ^ suc (emax f) * down e)) t)
-
 pub bits-mono : (f : Format) (x y : Float) → T (fits f x) → T (unsigned x) → T (unsigned y) → le x y ≡ true → toBits f x ≤ toBits f y
 unfolding le lt eq toBits
 bits-mono f nan y p a b h = absurd a
@@ -81,7 +75,7 @@ bits-mono f (fin false m e) (inf false) p a b h =
     le-trans
     (written-mono f (m * up e * 2 ^ low f / down e) (2 ^ (low f + suc (emax f)))
     (le-of-lt (div-lt-iff-lt-mul (down-pos e) .1
-    (lt-of-lt-of-le (mul-lt-mul-of-pos-right (in-range f false m e p) (pow-pos (low f)))
+    (lt-of-lt-of-le (mul-lt-mul-of-pos-right (fits-range f false m e p) (pow-pos (low f)))
     (le-of-eq (mul-right-comm (2 ^ suc (emax f)) (down e) (2 ^ low f) ∙ ap (λ (z : ℕ). z * down e) (mul-comm (2 ^ suc (emax f)) (2 ^ low f) ∙ sym (pow-add 2 (low f) (suc (emax f))))))))))
     (le-of-eq (over f ∙ sym (zero-add (ones f * hid f))))
 bits-mono f (fin false m e) (fin true n d) p a b h = absurd b
