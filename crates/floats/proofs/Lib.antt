@@ -4,3 +4,4 @@ pub mod IndexLaws
 pub mod SignLaws
 pub mod ExactLaws
 pub mod NextLaws
+pub mod SwapLaws
