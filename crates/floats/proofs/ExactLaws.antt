@@ -1,18 +1,20 @@
 -- A value that the format holds is its own rounding: `round-self`. And two values of a format that are one fraction with one sign are the same: `value-unique`.
--- Assumes nothing.
+-- So a fraction that is at most such a value rounds to at most it. Assumes nothing.
 use mathlib.Core.Path.{_≡_, refl, sym, ap, _∙_, subst}
-use mathlib.Core.Bool.{Bool, _&&_, cond}
+use mathlib.Core.Bool.{Bool, true, false, _&&_, cond, true≢false}
 use Prim.Native.Nat.{ℕ, zero, suc, _+_, _-_, _*_, _/_, _%_, _^_, _≤_, _<_}
-use native.Mathlib.Nat.{le-of-eq, lt-of-le-of-lt, lt-of-lt-of-le, not-le-of-lt, zero-mul, mul-one, mul-comm, mul-assoc, mul-right-comm, mul-lt-mul-of-pos-right, mul-pos, lt-of-mul-lt-mul-right}
+use native.Mathlib.Nat.{le-of-eq, lt-of-le-of-lt, lt-of-lt-of-le, lt-of-not-le, not-le-of-lt, zero-mul, mul-one, mul-comm, mul-assoc, mul-right-comm, mul-lt-mul-of-pos-right, mul-pos, lt-of-mul-lt-mul-right}
 use native.Mathlib.Omega.{arith}
 use lib.IntN.{ℤ, pos, negsuc}
 use lib.Dec.{T, ltb, leb, eqb, ltb→lt, leb→le}
 use lib.Pow.{pow-add, pow-pos, pow-lt}
-use lib.Ieee.{Float, nan, inf, fin, Format, prec, emax, low, hid, top, up, down, size, round, fits, ofBits, toBits}
+use lib.Ieee.{Float, nan, inf, fin, Format, prec, emax, low, hid, top, up, down, size, round, lt, le, fits, ofBits, toBits}
 use lib.Ieee.Fits.{down-pos, and-l, and-r, round-fits}
-use lib.Ieee.Bits.{ofBits-toBits}
+use lib.Ieee.Bits.{is-true, ofBits-toBits}
 use lib.Ieee.Exact.{HasValue, round-exact}
 use lib.Ieee.Nearest.{div-same}
+use lib.Ieee.Order.{transfer, round-mono}
+use borrow.Author.Tests.{lt-ltb}
 
 -- ---- what `fits` says of a finite value
 
@@ -97,3 +99,26 @@ exact f s (suc m) (negsuc k) t =
 
 pub round-self : (f : Format) (s : Bool) (m : ℕ) (e : ℤ) → T (fits f (fin s m e)) → round f s (m * up e) (down e) ≡ fin s m e
 round-self f s m e t = value-unique f (round f s (m * up e) (down e)) (fin s m e) s (m * up e) (down e) (down-pos e) (round-fits f s (m * up e) (down e)) t (exact f s m e t) (refl, refl)
+
+-- ---- values as fractions
+
+pub lt-of-values : (x y : Float) (a c b d : ℕ) → 0 < c → 0 < d → HasValue x false a c → HasValue y false b d → a * d < b * c → lt x y ≡ true
+unfolding lt
+lt-of-values nan y a c b d C D v w h = absurd v
+lt-of-values (inf s) y a c b d C D v w h = absurd v
+lt-of-values (fin true m e) y a c b d C D v w h = absurd (true≢false (v .0))
+lt-of-values (fin false m e) nan a c b d C D v w h = absurd w
+lt-of-values (fin false m e) (inf t) a c b d C D v w h = absurd w
+lt-of-values (fin false m e) (fin true n g) a c b d C D v w h = absurd (true≢false (w .0))
+lt-of-values (fin false m e) (fin false n g) a c b d C D v w h =
+    lt-ltb (m * up e * down g) (n * up g * down e)
+    (lt-of-not-le (λ k. not-le-of-lt h (transfer b a d c (n * up g) (m * up e) (down g) (down e) (down-pos g) (down-pos e) (sym (w .1)) (sym (v .1)) k)))
+
+-- a fraction that is at most a value that fits rounds to at most that value
+pub round-at-most : (f : Format) (a c m : ℕ) (e : ℤ) → 0 < c → T (fits f (fin false m e)) → a * down e ≤ m * up e * c → le (round f false a c) (fin false m e) ≡ true
+round-at-most f a c m e C t h =
+    subst (λ (z : Float). le (round f false a c) z ≡ true) (round-self f false m e t) (is-true _ (round-mono f a c (m * up e) (down e) C (down-pos e) h))
+
+pub round-at-least : (f : Format) (a c m : ℕ) (e : ℤ) → 0 < c → T (fits f (fin false m e)) → m * up e * c ≤ a * down e → le (fin false m e) (round f false a c) ≡ true
+round-at-least f a c m e C t h =
+    subst (λ (z : Float). le z (round f false a c) ≡ true) (round-self f false m e t) (is-true _ (round-mono f (m * up e) (down e) a c (down-pos e) C h))

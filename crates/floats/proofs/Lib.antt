@@ -5,3 +5,4 @@ pub mod SignLaws
 pub mod ExactLaws
 pub mod NextLaws
 pub mod SwapLaws
+pub mod ShareLaws

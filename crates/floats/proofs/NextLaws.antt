@@ -25,7 +25,7 @@ more-field : (f : Format) (k l q r : ℕ) → k < l → q < 2 ^ prec f → hid f
 more-field binary32 k l q r h a b = omega arith
 more-field binary64 k l q r h a b = omega arith
 
-whole-field : (f : Format) (z : ℕ) → 0 < z - prec f → prec f - 1 + (z - prec f) < z
+pub whole-field : (f : Format) (z : ℕ) → 0 < z - prec f → prec f - 1 + (z - prec f) < z
 whole-field binary32 z h = omega arith
 whole-field binary64 z h = omega arith
 
