@@ -6,7 +6,7 @@ use mathlib.Core.Bool.{true, false}
 use Prim.Native.Nat.{ℕ, suc, _+_, _-_, _*_, _/_, _%_, _^_, _≤_, _<_, compare, Ordering, Ordering·lt, Ordering·eq, Ordering·gt}
 use native.Mathlib.Nat.{le-trans, le-of-eq, le-of-lt, lt-of-lt-of-le, lt-irrefl, le-add-right, add-mul, eq-zero-or-pos, le-of-mul-le-mul-right, one-mul, mul-one, mul-comm, mul-assoc, mul-left-comm, mul-right-comm, mul-le-mul-right, mul-le-mul-left, mul-lt-mul-of-pos-right, mul-pos, lt-of-mul-lt-mul-right, suc-mul, div-add-mod', le-div-iff-mul-le}
 use native.Mathlib.Omega.{arith}
-use lib.IntN.{ℤ}
+use lib.IntN.{ℤ, pos, negsuc}
 use lib.Dec.{T, ltb→lt, lit≤}
 use lib.Pow.{pow-add, pow-pos}
 use lib.Ieee.{Float, nan, inf, fin, Format, binary32, binary64, prec, emax, low, hid, up, down, size, nearest, round, mul, lt, eq, le, fits, ofBits}
@@ -19,9 +19,10 @@ use lib.Ieee.Positive.{num, den, positive, den-pos, own-value, mul-at, above, ab
 use borrow.Author.Tests.{ne-eqb}
 use Rattle.loops.proofs.Cases.{never}
 use Rattle.floats.proofs.RoundLaws.{Cmp, cmp}
-use Rattle.floats.proofs.ExactLaws.{fits-range, round-at-most, lt-of-values}
+use Rattle.floats.proofs.ExactLaws.{fits-range, round-at-most, round-at-least, lt-of-values}
 use Rattle.floats.proofs.NextLaws.{whole-field}
 use Rattle.floats.proofs.SwapLaws.{mul-swap}
+use Rattle.floats.proofs.OrderLaws.{lt-le}
 use Rattle.floats.proofs.SignLaws.{unsigned}
 
 -- ---- at most the whole
@@ -146,6 +147,30 @@ module _ (f : Format) (c : Float) (C : T (positive c)) (share : num c * hid f + 
   pub share-lt-right : (x : Float) → T (positive x) → T (fits f x) → Normal f x → lt (mul f x c) x ≡ true
   share-lt-right x X F n = subst (λ (z : Float). lt z x ≡ true) (mul-swap f c x) (share-lt x X F n)
 
+-- ---- and above zero, where c * x is the format's smallest value at least
+
+smallest-fits : (f : Format) → T (fits f (fin false 1 (negsuc (low f - 1))))
+unfolding fits
+smallest-fits binary32 = tt
+smallest-fits binary64 = tt
+
+smallest-above : (f : Format) → lt (fin false 0 (pos 0)) (fin false 1 (negsuc (low f - 1))) ≡ true
+unfolding lt
+smallest-above binary32 = refl
+smallest-above binary64 = refl
+
+down-smallest : (f : Format) → down (negsuc (low f - 1)) ≡ 2 ^ low f
+down-smallest binary32 = refl
+down-smallest binary64 = refl
+
+pub share-above : (f : Format) (c x : Float) → T (positive c) → T (positive x) → den c * den x ≤ num c * num x * 2 ^ low f → lt (fin false 0 (pos 0)) (mul f c x) ≡ true
+share-above f c x C X h =
+    lt-le (fin false 0 (pos 0)) (fin false 1 (negsuc (low f - 1))) (mul f c x) (smallest-above f)
+    (subst (λ (z : Float). le (fin false 1 (negsuc (low f - 1))) z ≡ true)
+    (sym (mul-at f c x (num c) (den c) (num x) (den x) C X (den-pos c) (den-pos x) (own-value c C) (own-value x X)))
+    (round-at-least f (num c * num x) (den c * den x) 1 (negsuc (low f - 1)) (mul-pos (den-pos c) (den-pos x)) (smallest-fits f)
+    (subst (λ (z : ℕ). 1 * 1 * (den c * den x) ≤ num c * num x * z) (sym (down-smallest f)) (le-trans (le-of-eq (one-mul (den c * den x))) h))))
+
 -- ---- the normal range by a test: `ofBits f (hid f)` is the smallest normal value, 2 ^ (1 - emax)
 
 scaled : (d n A L H : ℕ) → 1 * 1 * d ≤ n * A → H * A ≡ L → H * d ≤ n * L
@@ -214,3 +239,10 @@ module _ (x : Float) (X : T (positive x)) (F : T (fits binary64 x)) (N : Normal 
   pub lt-half-right : lt (mul binary64 x c50) x ≡ true
   unfolding ofBits
   lt-half-right = share-lt-right binary64 c50 tt (lit≤ tt) x X F N
+
+  pub half-above : lt (fin false 0 (pos 0)) (mul binary64 c50 x) ≡ true
+  unfolding ofBits
+  half-above = share-above binary64 c50 x tt X (doubled (den x) (num x * 2 ^ 1074) (1 * 1 * num x * 2 ^ 1074) N (ap (λ (z : ℕ). z * 2 ^ 1074) (one-mul (num x))))
+    where
+      doubled : (d n k : ℕ) → 4503599627370496 * d ≤ n → k ≡ n → 2 * d ≤ k
+      doubled d n k h e = omega arith
