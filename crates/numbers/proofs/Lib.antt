@@ -4,3 +4,4 @@ pub mod NarrowLaws
 pub mod RootLaws
 pub mod HalfLaws
 pub mod RootMono
+pub mod GuardLaws
