@@ -6,3 +6,4 @@ pub mod ExactLaws
 pub mod NextLaws
 pub mod SwapLaws
 pub mod ShareLaws
+pub mod RoundMono
