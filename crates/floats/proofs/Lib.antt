@@ -7,3 +7,4 @@ pub mod NextLaws
 pub mod SwapLaws
 pub mod ShareLaws
 pub mod RoundMono
+pub mod AddMono
