@@ -8,3 +8,4 @@ pub mod SwapLaws
 pub mod ShareLaws
 pub mod RoundMono
 pub mod AddMono
+pub mod NumberLaws
