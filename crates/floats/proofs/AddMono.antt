@@ -13,7 +13,7 @@ use lib.Ieee.Fits.{down-pos}
 use borrow.Author.Tests.{ltb-true, ltb-false}
 use Rattle.loops.proofs.Cases.{by-test, never}
 use Rattle.floats.proofs.OrderLaws.{Le, le-of, le-refl}
-use Rattle.floats.proofs.SignLaws.{under-top, neg-le}
+use Rattle.floats.proofs.SignLaws.{under-top, over-bottom, neg-le}
 use Rattle.floats.proofs.SwapLaws.{add-swap}
 use Rattle.floats.proofs.RoundMono.{Rounds, rounds-le}
 
@@ -96,13 +96,6 @@ add-inf f (inf false) true n = never (sym n)
 add-inf f (inf false) false n = refl
 add-inf f (fin s m e) t n = refl
 
-bottom-under : (y : Float) → isNan y ≡ false → le (inf true) y ≡ true
-unfolding le lt eq isNan
-bottom-under nan n = never (sym n)
-bottom-under (inf true) n = refl
-bottom-under (inf false) n = refl
-bottom-under (fin t k d) n = refl
-
 number-inf : (t : Bool) → isNan (inf t) ≡ false
 unfolding isNan
 number-inf t = refl
@@ -125,7 +118,7 @@ unfolding le lt eq add isNan
 to-finite f nan y t n d h p q = never h
 to-finite f (inf s) nan t n d h p q = never h
 to-finite f (inf s) (inf s') t n d h p q = h
-to-finite f (inf true) (fin s' m' e') t n d h p q = bottom-under (add f (fin s' m' e') (fin t n d)) q
+to-finite f (inf true) (fin s' m' e') t n d h p q = over-bottom (add f (fin s' m' e') (fin t n d)) q
 to-finite f (inf false) (fin s' m' e') t n d h p q = never h
 to-finite f (fin s m e) nan t n d h p q = never h
 to-finite f (fin s m e) (inf true) t n d h p q = never h

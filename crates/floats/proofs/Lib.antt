@@ -9,3 +9,4 @@ pub mod ShareLaws
 pub mod RoundMono
 pub mod AddMono
 pub mod NumberLaws
+pub mod MulMono

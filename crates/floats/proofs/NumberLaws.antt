@@ -6,13 +6,7 @@ use lib.Dec.{T, ltb, eqb, eqb·suc-zero}
 use lib.Ieee.{Float, nan, inf, fin, Format, up, down, unlike, round, sum, add, sub, mul, div, neg, isNan}
 use lib.Ieee.Scale.{finite}
 use Rattle.loops.proofs.Cases.{by-test}
-use Rattle.floats.proofs.SignLaws.{number, round-unsigned, round-neg}
-
-neg-number : (x : Float) → isNan (neg x) ≡ isNan x
-unfolding neg isNan
-neg-number nan = refl
-neg-number (inf s) = refl
-neg-number (fin s m e) = refl
+use Rattle.floats.proofs.SignLaws.{neg-number, number, round-unsigned, round-neg}
 
 pub round-number : (f : Format) (s : Bool) (a c : ℕ) → isNan (round f s a c) ≡ false
 round-number f true a c = ap isNan (round-neg f a c) ∙ neg-number (round f false a c) ∙ number (round f false a c) (round-unsigned f a c)

@@ -72,6 +72,13 @@ under-top (inf true) n = refl
 under-top (inf false) n = refl
 under-top (fin s m e) n = refl
 
+pub over-bottom : (y : Float) → isNan y ≡ false → le (inf true) y ≡ true
+unfolding le lt eq isNan
+over-bottom nan n = never (sym n)
+over-bottom (inf true) n = refl
+over-bottom (inf false) n = refl
+over-bottom (fin t k d) n = refl
+
 -- ---- `round`
 
 -- its sign is the one that it is given
@@ -108,8 +115,23 @@ units-neg f (suc q) k = go (ltb (suc q * 2 ^ k) (2 ^ (low f + suc (emax f))))
 pub round-neg : (f : Format) (a c : ℕ) → round f true a c ≡ neg (round f false a c)
 round-neg f a c = round-is f true a c ∙ units-neg f (kept (prec f) (a * 2 ^ low f) c) (drop (prec f) (a * 2 ^ low f) c) ∙ ap neg (sym (round-is f false a c))
 
--- ---- `neg` turns the order round
+-- ---- `neg`
 
+pub neg-neg : (x : Float) → neg (neg x) ≡ x
+unfolding neg
+neg-neg nan = refl
+neg-neg (inf true) = refl
+neg-neg (inf false) = refl
+neg-neg (fin true m e) = refl
+neg-neg (fin false m e) = refl
+
+pub neg-number : (x : Float) → isNan (neg x) ≡ isNan x
+unfolding neg isNan
+neg-number nan = refl
+neg-number (inf s) = refl
+neg-number (fin s m e) = refl
+
+-- it turns the order round
 pub neg-le : (x y : Float) → le x y ≡ true → le (neg y) (neg x) ≡ true
 unfolding le lt eq neg
 neg-le nan y h = never h
