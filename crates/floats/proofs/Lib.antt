@@ -10,3 +10,4 @@ pub mod RoundMono
 pub mod AddMono
 pub mod NumberLaws
 pub mod MulMono
+pub mod DivMono

@@ -14,12 +14,14 @@ use lib.Ieee.Fits.{kept-lt, down-pos}
 use lib.Ieee.Nearest.{div-mono}
 use lib.Ieee.Bits.{ofBits-toBits}
 use Rattle.loops.proofs.Cases.{by-cases, never}
-use Rattle.floats.proofs.RoundLaws.{written}
 use Rattle.floats.proofs.ExactLaws.{fits-range}
 use Rattle.floats.proofs.SignLaws.{unsigned, number, signed-under, sign-up}
 use Rattle.floats.proofs.OrderLaws.{le-of, lt-irrefl, lt-to-le, not-lt-le, lt-numbers}
 
 -- ---- the pattern of a size in units of the format's smallest value
+
+abbrev written : Format → ℕ → ℕ
+written f n = 0 + (size n - prec f) * hid f + n / 2 ^ (size n - prec f)
 
 more-field : (f : Format) (k l q r : ℕ) → k < l → q < 2 ^ prec f → hid f ≤ r → 0 + k * hid f + q ≤ 0 + l * hid f + r
 more-field binary32 k l q r h a b = omega arith
@@ -32,7 +34,7 @@ whole-field binary64 z h = omega arith
 fewer : (x y p : ℕ) → x ≤ y → x - p ≤ y - p
 fewer x y p h = omega arith
 
-pub written-mono : (f : Format) (a b : ℕ) → a ≤ b → written f a ≤ written f b
+written-mono : (f : Format) (a b : ℕ) → a ≤ b → written f a ≤ written f b
 written-mono f a b h =
     let k = size a - prec f in
     let l = size b - prec f in

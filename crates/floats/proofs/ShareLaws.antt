@@ -3,13 +3,14 @@
 use mathlib.Core.Path.{_≡_, refl, sym, ap, _∙_, subst}
 use mathlib.Core.Logic.{inl, inr}
 use mathlib.Core.Bool.{true, false}
-use Prim.Native.Nat.{ℕ, suc, _+_, _-_, _*_, _/_, _%_, _^_, _≤_, _<_, compare, Ordering, Ordering·lt, Ordering·eq, Ordering·gt}
+use Prim.Native.Nat.{ℕ, suc, _+_, _-_, _*_, _/_, _%_, _^_, _≤_, _<_}
 use native.Mathlib.Nat.{le-trans, le-of-eq, le-of-lt, lt-of-lt-of-le, lt-irrefl, le-add-right, add-mul, eq-zero-or-pos, le-of-mul-le-mul-right, one-mul, mul-one, mul-comm, mul-assoc, mul-left-comm, mul-right-comm, mul-le-mul-right, mul-le-mul-left, mul-lt-mul-of-pos-right, mul-pos, lt-of-mul-lt-mul-right, suc-mul, div-add-mod', le-div-iff-mul-le}
 use native.Mathlib.Omega.{arith}
+use native.Mathlib.Decide.{decLt}
 use lib.IntN.{ℤ, pos, negsuc}
 use lib.Dec.{T, ltb→lt, lit≤}
 use lib.Pow.{pow-add, pow-pos}
-use lib.Ieee.{Float, nan, inf, fin, Format, binary32, binary64, prec, emax, low, hid, up, down, size, nearest, round, mul, lt, eq, le, fits, ofBits}
+use lib.Ieee.{Float, nan, inf, fin, Format, binary32, binary64, prec, emax, low, hid, up, down, size, round, mul, lt, eq, le, fits, ofBits}
 use lib.Ieee.Digits.{size-reaches}
 use lib.Ieee.Fits.{up-pos, down-pos}
 use lib.Ieee.Nearest.{closest}
@@ -18,7 +19,7 @@ use lib.Ieee.Scale.{grid, round-val}
 use lib.Ieee.Positive.{num, den, positive, den-pos, own-value, mul-at, above, above-of-le, le→cross}
 use borrow.Author.Tests.{ne-eqb}
 use Rattle.loops.proofs.Cases.{never}
-use Rattle.floats.proofs.RoundLaws.{Cmp, cmp}
+use Rattle.floats.proofs.RoundLaws.{nearest-lt, nearest-eq, nearest-gt}
 use Rattle.floats.proofs.ExactLaws.{fits-range, round-at-most, round-at-least, lt-of-values}
 use Rattle.floats.proofs.NextLaws.{whole-field}
 use Rattle.floats.proofs.SwapLaws.{mul-swap}
@@ -55,18 +56,17 @@ tie-le q b a r e h =
 
 -- rounded to the nearest whole number a / b grows by a half at most
 closest-le : (a b : ℕ) → 2 * (closest a b * b) ≤ 2 * a + b
-closest-le a b = go (compare (a % b * 2) b) (cmp (a % b * 2) b)
+closest-le a b = go (decLt (a % b * 2) b) (decLt b (a % b * 2))
   where
     whole : a / b * b + a % b ≡ a
     whole = div-add-mod' a b
 
-    go : (o : Ordering) → Cmp o (a % b * 2) b → 2 * (nearest (a / b) o * b) ≤ 2 * a + b
-    go Ordering·lt h = let w = whole in omega arith
-    go Ordering·eq h = tie-le (a / b) b a (a % b) whole h
-    go Ordering·gt h =
-        let w = whole in
-        let y : suc (a / b) * b ≡ a / b * b + b = suc-mul (a / b) b in
-        omega arith
+    go : Dec (a % b * 2 < b) → Dec (b < a % b * 2) → 2 * (closest a b * b) ≤ 2 * a + b
+    go (yes h) d = let w = whole in rw (nearest-lt (a / b) (a % b * 2) b h) (omega arith)
+    go (no h) (yes k) = let w = whole in rw (nearest-gt (a / b) (a % b * 2) b k) (omega (arith, add-mul (a / b) 1 b))
+    go (no h) (no k) =
+        let e : a % b * 2 ≡ b = omega arith in
+        rw (nearest-eq (a / b) (a % b * 2) b e) (tie-le (a / b) b a (a % b) whole e)
 
 -- with h for the weight of the exponent's field: h * B ≤ q * N says that the half of a step is small beside N
 narrow : (h p q N B : ℕ) → 0 < q * N → p * h + q ≤ q * h → h * B ≤ q * N → 2 * (p * N) + B < 2 * (q * N)
