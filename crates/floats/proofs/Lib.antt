@@ -11,3 +11,4 @@ pub mod AddMono
 pub mod NumberLaws
 pub mod MulMono
 pub mod DivMono
+pub mod ThresholdLaws

@@ -5,6 +5,7 @@ use Prim.Native.Nat.{ℕ, zero, suc, _+_, _-_, _*_}
 use lib.Dec.{T, ltb, eqb, eqb·suc-zero}
 use lib.Ieee.{Float, nan, inf, fin, Format, up, down, unlike, round, sum, add, sub, mul, div, neg, isNan}
 use lib.Ieee.Scale.{finite}
+use lib.Ieee.Positive.{positive}
 use Rattle.loops.proofs.Cases.{by-test}
 use Rattle.floats.proofs.SignLaws.{neg-number, number, round-unsigned, round-neg}
 
@@ -50,6 +51,23 @@ nonzero nan = false
 nonzero (inf s) = true
 nonzero (fin s zero e) = false
 nonzero (fin s (suc m) e) = true
+
+pub positive-nonzero : (x : Float) → T (positive x) → T (nonzero x)
+positive-nonzero nan a = a
+positive-nonzero (inf s) a = tt
+positive-nonzero (fin true m e) a = absurd a
+positive-nonzero (fin false zero e) a = a
+positive-nonzero (fin false (suc m) e) a = tt
+
+-- a number times a finite one that is not zero
+pub scale-number : (f : Format) (x y : Float) → isNan x ≡ false → T (finite y) → T (nonzero y) → isNan (mul f x y) ≡ false
+unfolding mul isNan
+scale-number f nan y a b c = a
+scale-number f (inf s) nan a b c = absurd b
+scale-number f (inf s) (inf t) a b c = absurd b
+scale-number f (inf s) (fin t zero d) a b c = absurd c
+scale-number f (inf s) (fin t (suc n) d) a b c = subst (λ (z : Bool). isNan (cond z nan (inf (unlike s t))) ≡ false) (sym (eqb·suc-zero n)) refl
+scale-number f (fin s m e) y a b c = mul-number f (fin s m e) y tt b
 
 pub div-number : (f : Format) (x y : Float) → T (finite x) → T (nonzero y) → isNan (div f x y) ≡ false
 unfolding div isNan

@@ -8,6 +8,7 @@ use lib.Dec.{T, ltb}
 use lib.Ieee.{Float, nan, inf, fin, Format, prec, emax, low, up, down, odd, units, round, neg, lt, eq, le, isNan}
 use lib.Ieee.Fits.{round-is}
 use lib.Ieee.Order.{kept, drop}
+use lib.Ieee.Positive.{positive}
 use Rattle.loops.proofs.Cases.{never}
 use Rattle.floats.proofs.OrderLaws.{Le, le-of, le-back}
 
@@ -22,6 +23,12 @@ unfolding isNan
 number nan a = absurd a
 number (inf s) a = refl
 number (fin s m e) a = refl
+
+pub positive-unsigned : (x : Float) → T (positive x) → T (unsigned x)
+positive-unsigned nan a = a
+positive-unsigned (inf s) a = absurd a
+positive-unsigned (fin true m e) a = a
+positive-unsigned (fin false m e) a = tt
 
 -- a value with the sign set is under one with it clear
 pub signed-under : (x y : Float) → isNan x ≡ false → T (not (unsigned x)) → T (unsigned y) → le x y ≡ true

@@ -15,12 +15,13 @@ use lib.Ieee.Fits.{up-pos, down-pos}
 use lib.Ieee.Nearest.{div-mono}
 use lib.Ieee.Order.{round-mono}
 use lib.Ieee.Positive.{above-of-le}
-use borrow.Author.Tests.{ltb-true, lt-ltb, leb-true, leb-false}
+use borrow.Author.Tests.{ltb-true, lt-ltb}
 use Rattle.loops.proofs.Cases.{by-cases, never}
 use Rattle.floats.proofs.OrderLaws.{le-of, le-back, le-lt, le-le, lt-le, le-numbers, lt-numbers, le-not-lt, lt-not-le, not-lt-le}
 use Rattle.floats.proofs.SignLaws.{unsigned, number, zero-under, under-top, round-unsigned}
 use Rattle.floats.proofs.NextLaws.{none-between}
 use Rattle.floats.proofs.IndexLaws.{whole-mono}
+use Rattle.floats.proofs.ThresholdLaws.{at-most-to, below-to}
 use Rattle.numbers.specs.Root.{rootOfNat, sticky, rootOf}
 use Rattle.numbers.proofs.RootLaws.{root-is, sq-le-back}
 use Rattle.numbers.proofs.WholeLaws.{nought}
@@ -148,22 +149,15 @@ pub whole-above : (n : ℕ) → le nought (ofInt binary64 (pos n)) ≡ true
 unfolding ofInt
 whole-above n = zero-under false (pos 0) (round binary64 false n 1) (round-unsigned binary64 n 1)
 
-pub root-whole-mono : (m n : ℕ) → m ≤ n → le (rootOf (ofInt binary64 (pos m))) (rootOf (ofInt binary64 (pos n))) ≡ true
-root-whole-mono m n h = root-mono (ofInt binary64 (pos m)) (ofInt binary64 (pos n)) (whole-above m) (whole-mono binary64 m n h)
-
 abbrev pub rootAt : ℕ → Float
 rootAt n = rootOf (ofInt binary64 (pos n))
 
-module _ (n k : ℕ) (r : Float) where
-  after : leb k n ≡ false → n + 1 ≤ k
-  after e = let g = leb-false k n e in omega arith
+pub root-whole-mono : (m n : ℕ) → m ≤ n → le (rootAt m) (rootAt n) ≡ true
+root-whole-mono m n h = root-mono (ofInt binary64 (pos m)) (ofInt binary64 (pos n)) (whole-above m) (whole-mono binary64 m n h)
 
+module _ (n k : ℕ) (r : Float) where
   pub root-whole-at-most : le (rootAt n) r ≡ true → lt r (rootAt (n + 1)) ≡ true → le (rootAt k) r ≡ leb k n
-  root-whole-at-most a b =
-      by-cases (leb k n) (λ e. le-le (rootAt k) (rootAt n) r (root-whole-mono k n (leb-true k n e)) a ∙ sym e)
-      (λ e. lt-not-le r (rootAt k) (lt-le r (rootAt (n + 1)) (rootAt k) b (root-whole-mono (n + 1) k (after e))) ∙ sym e)
+  root-whole-at-most = at-most-to rootAt root-whole-mono n k r
 
   pub root-whole-below : lt (rootAt n) r ≡ true → le r (rootAt (n + 1)) ≡ true → lt (rootAt k) r ≡ leb k n
-  root-whole-below a b =
-      by-cases (leb k n) (λ e. le-lt (rootAt k) (rootAt n) r (root-whole-mono k n (leb-true k n e)) a ∙ sym e)
-      (λ e. le-not-lt r (rootAt k) (le-le r (rootAt (n + 1)) (rootAt k) b (root-whole-mono (n + 1) k (after e))) ∙ sym e)
+  root-whole-below = below-to rootAt root-whole-mono n k r
