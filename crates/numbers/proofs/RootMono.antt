@@ -17,7 +17,7 @@ use lib.Ieee.Order.{round-mono}
 use lib.Ieee.Positive.{above-of-le}
 use borrow.Author.Tests.{ltb-true, lt-ltb}
 use Rattle.loops.proofs.Cases.{by-cases, never}
-use Rattle.floats.proofs.OrderLaws.{le-of, le-back, le-lt, le-le, lt-le, le-numbers, lt-numbers, le-not-lt, lt-not-le, not-lt-le}
+use Rattle.floats.proofs.OrderLaws.{le-of, le-back, le-refl, le-lt, le-le, lt-le, le-numbers, lt-numbers, le-not-lt, lt-not-le, not-lt-le}
 use Rattle.floats.proofs.SignLaws.{unsigned, number, zero-under, under-top, round-unsigned}
 use Rattle.floats.proofs.NextLaws.{none-between}
 use Rattle.floats.proofs.IndexLaws.{whole-mono}
@@ -100,7 +100,11 @@ ordered (fin false (suc m) e) (fin false (suc n) d) a h b = rounded m e n d h
 pub root-mono : (x y : Float) → le nought x ≡ true → le x y ≡ true → le (rootOf x) (rootOf y) ≡ true
 root-mono x y a h = ordered x y a h (le-le nought x y a h)
 
--- what has a root is not below zero
+-- what is not below zero has a root
+pub root-defined : (x : Float) → le nought x ≡ true → isNan (rootOf x) ≡ false
+root-defined x a = le-numbers (rootOf x) (rootOf x) (root-mono x x a (le-refl x (le-numbers nought x a .1))) .0
+
+-- and what has a root is not below zero
 pub root-number : (x : Float) → isNan (rootOf x) ≡ false → le nought x ≡ true
 unfolding rootOf isNan le lt eq
 root-number nan n = never (sym n)
