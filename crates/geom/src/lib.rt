@@ -1,0 +1,2 @@
+// Planar geometry (geom.rs of the Rust): vectors, and loops and regions over lent vertices.
+pub mod vec2;
