@@ -18,6 +18,7 @@ pub struct Plan {
     pub map: Vec<bool>,
 }
 
+#[derive(Clone, Debug)]
 pub struct Outcome {
     /// The plan, or the number of the question answered no.
     pub answer: Result<Plan, u32>,
