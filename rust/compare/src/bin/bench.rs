@@ -98,7 +98,7 @@ fn main() {
     println!("{:20} {}", "ns a call", heads.join(" "));
     println!("{:20} {:8.2}", "(the empty loop)", time(&draw(any1), |x| x.to_bits()));
     numbers!(time_each);
-    // The house sine and cosine above; here beside Rust's own, which are other functions.
+    println!("beside f64::cos and f64::sin, which are other functions:");
     time_each! {
         numbers_cos(a: f64) -> f64, angle, a.cos();
         numbers_sin(a: f64) -> f64, angle, a.sin();
