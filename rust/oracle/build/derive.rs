@@ -1,5 +1,5 @@
-//! What may be done to a printed file. Each edit says how often its text occurs; another count stops
-//! the build, so neither the print nor a table can change unnoticed.
+//! What may be done to a printed file. Each edit says how often its text stands there; another count
+//! stops the build, as does a printed file with another fingerprint than the published one's.
 
 pub enum Edit {
     Replace { times: usize, why: &'static str, from: &'static str, to: &'static str },
@@ -33,11 +33,12 @@ pub fn derive(file: &str, mut text: String, edits: &[Edit]) -> Result<String, St
             Edit::Omit { why, from, until } => {
                 counted(file, &text, from, 1, why)?;
                 let (head, rest) = text.split_at(text.find(from).unwrap_or(0));
+                let after = &rest[from.len()..];
                 let end = match *until {
-                    "" => rest.len(),
-                    until => rest.find(until).ok_or(format!("{file}: {why}: no later {until:?}"))?,
+                    "" => after.len(),
+                    until => after.find(until).ok_or(format!("{file}: {why}: no later {until:?}"))?,
                 };
-                format!("{head}{}", &rest[end..])
+                format!("{head}{}", &after[end..])
             }
             Edit::Publish { items } => {
                 let mut text = text;
@@ -60,4 +61,9 @@ fn counted(file: &str, text: &str, part: &str, times: usize, why: &str) -> Resul
         return Ok(());
     }
     Err(format!("{file}: {why}: stands {found} times in the print, not {times}: {part:?}"))
+}
+
+/// FNV-1a, 64 bits.
+pub fn fingerprint(text: &str) -> u64 {
+    text.bytes().fold(0xcbf2_9ce4_8422_2325, |h, b| (h ^ b as u64).wrapping_mul(0x0000_0100_0000_01b3))
 }
