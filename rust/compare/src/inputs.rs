@@ -42,8 +42,8 @@ const SPECIAL: [f64; 40] = [
     18446744073709549568.0,
     18446744073709551616.0,
     // Narrowing: ties, the largest f32 and half a step beyond it, subnormal f32 and half the least.
-    1.000000059604644775390625,
-    1.000000178813934326171875,
+    1.0 + 1.0 / 16777216.0,
+    1.0 + 3.0 / 16777216.0,
     16777217.0,
     f32::MAX as f64,
     3.4028235677973366e38,
@@ -78,14 +78,14 @@ fn nudged(mut v: f64, r: &mut Rng) -> f64 {
 
 /// A whole number of a random length, up to that many bits.
 fn whole(r: &mut Rng, bits: u64) -> u64 {
-    let word = r.next();
+    let word = r.bits();
     word >> (64 - bits + r.below(bits))
 }
 
 fn random(r: &mut Rng) -> f64 {
     let v = match r.below(10) {
-        0 | 1 => return f64::from_bits(r.next()),
-        2 => f64::from_bits((1023 - 64 + r.below(128)) << 52 | r.next() >> 12),
+        0 | 1 => return f64::from_bits(r.bits()),
+        2 => f64::from_bits((1023 - 64 + r.below(128)) << 52 | r.bits() >> 12),
         3 => {
             let v = whole(r, 54) as f64 * 0.5;
             nudged(v, r)
@@ -105,7 +105,7 @@ fn random(r: &mut Rng) -> f64 {
         }
         8 => {
             // Midway between two f32.
-            let a = f32::from_bits(r.next() as u32 & 0x7fff_ffff);
+            let a = f32::from_bits(r.bits() as u32 & 0x7fff_ffff);
             nudged((a as f64 + a.next_up() as f64) * 0.5, r)
         }
         _ => {

@@ -31,7 +31,7 @@ fn random_marks(r: &mut Rng, n: usize) -> Vec<bool> {
         1 => 0.5,
         2 => 0.999,
         3 => 20.0 / n as f64,
-        _ => r.f() * r.f(),
+        _ => r.unit() * r.unit(),
     };
     (0..n).map(|_| r.chance(p)).collect()
 }

@@ -28,7 +28,7 @@ fn contact_from_the_table_is_the_printed_one() {
         let g =
             Grid { origin: v2(r.range(-9.0, 9.0), 1.0), cell: r.range(0.01, 2.0), nx: side, ny: side, data };
         for _ in 0..10 {
-            let c = g.origin + v2(r.f(), r.f()) * (g.cell * side as f64);
+            let c = g.origin + v2(r.unit(), r.unit()) * (g.cell * side as f64);
             let (radius, samples) = (r.range(0.0, 30.0) * g.cell, r.below(700) as usize);
             let printed = g.engagement_printed(c, radius, samples);
             assert_eq!(g.engagement(c, radius, samples).to_bits(), printed.to_bits());

@@ -12,11 +12,13 @@ pub struct Shape {
     pub stock: Option<Vec<Vec<Loop>>>,
 }
 
-pub fn rect(x0: f64, y0: f64, x1: f64, y1: f64) -> Vec<Vec2> {
+pub fn rect(x0: f64, y0: f64, x1: f64, y1: f64) -> Loop {
     vec![v2(x0, y0), v2(x1, y0), v2(x1, y1), v2(x0, y1)]
 }
 
-pub fn ring(c: Vec2, r: f64, n: usize, phase: f64) -> Vec<Vec2> {
+/// Points on a circle. By the system's sine and cosine: elsewhere the last bits may differ, so the
+/// stored jobs hold bits.
+pub fn ring(c: Vec2, r: f64, n: usize, phase: f64) -> Loop {
     (0..n)
         .map(|k| {
             let a = phase + TAU * k as f64 / n as f64;
@@ -32,6 +34,7 @@ pub fn turn(l: &mut [Vec2], a: f64) {
     }
 }
 
+/// Puts the loops into a job.
 pub fn add(j: &mut Job, loops: Vec<Loop>, stock: Option<Vec<Vec<Loop>>>) {
     j.pocket = loops.iter().map(|l| l.len()).collect();
     for l in loops {

@@ -29,8 +29,11 @@ fn point(t: &[f64; 3]) -> Vec2 {
     v2(t[0], t[1])
 }
 
-/// The triples of each row, if the rows list them all in order and each kind has its count.
-fn parts(plan: &Plan) -> Result<Vec<(u32, &[[f64; 3]])>, String> {
+/// Kind and triples of each row.
+type Parts<'a> = Vec<(u32, &'a [[f64; 3]])>;
+
+/// The plan's rows, if they list all triples in order and each kind has its count.
+fn parts(plan: &Plan) -> Result<Parts<'_>, String> {
     let mut out = Vec::new();
     let mut next = 0usize;
     for (n, &[kind, first, count]) in plan.rows.iter().enumerate() {
@@ -101,7 +104,7 @@ pub fn rows(job: &Job, plan: &Plan) -> Vec<String> {
 }
 
 /// Map and report at the end.
-fn check_end(w: &World, plan: &Plan, parts: &[(u32, &[[f64; 3]])], bad: &mut Vec<String>) {
+fn check_end(w: &World, plan: &Plan, parts: &Parts, bad: &mut Vec<String>) {
     let r = &plan.report;
     if (plan.nx, plan.ny) != (w.nx, w.ny) || plan.map != w.map {
         bad.push("the map handed back is not the replay's".into());
