@@ -1,5 +1,6 @@
 //! What the derived planner gains: the lent triples and rows (questions 16 and 17), the events of
-//! term 3, and times. None of it changes what is computed.
+//! term 3, and times. A refusal ends planning; nothing else here changes what is computed, unless a
+//! switch asks for a known mistake.
 use crate::planner::{Chunk, Planner};
 use crate::run::fingerprint;
 use crate::switches;

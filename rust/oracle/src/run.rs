@@ -96,6 +96,12 @@ pub fn fnv(bytes: impl Iterator<Item = u8>) -> u64 {
     bytes.fold(0xcbf2_9ce4_8422_2325, |h, b| (h ^ b as u64).wrapping_mul(0x0000_0100_0000_01b3))
 }
 
+/// The answer in a text of `print`, and the text's fingerprint.
+pub fn fingerprint_line(text: &str) -> String {
+    let answer = text.lines().next().unwrap_or("").trim_start_matches("answer ");
+    format!("{answer} {:016x}", fnv(text.bytes()))
+}
+
 /// The answer as text; without rows and triples when `brief`.
 pub fn print(outcome: &Outcome, brief: bool) -> String {
     let plan = match &outcome.answer {

@@ -1,16 +1,11 @@
 //! The answers that document 01 gives, written out by hand.
+mod common;
+use common::stored;
 use oracle::job::{self, Job};
 use oracle::run::{Plan, run};
-use std::path::Path;
 
 fn answer(job: &Job) -> Result<Plan, u32> {
     run(job, false).answer
-}
-
-fn stored(name: &str) -> Job {
-    let path = Path::new(env!("CARGO_MANIFEST_DIR")).join(format!("../jobs/{name}.job"));
-    let text = std::fs::read_to_string(&path).unwrap_or_else(|e| panic!("{}: {e}", path.display()));
-    job::parse(&text).unwrap_or_else(|e| panic!("{name}: {e}"))
 }
 
 /// A square of 9 with a tool of 6 and a cell of 0.1: 51 rows, 1,001 triples.

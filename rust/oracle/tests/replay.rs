@@ -1,28 +1,14 @@
-//! Every rule of term 3 by replay, on stored and generated jobs; and that the replay finds damage.
+//! Every rule of term 3 by replay, on generated jobs; and that the replay finds damage.
+mod common;
+use common::{quick, stored};
+use oracle::generate;
 use oracle::hooks::Event;
-use oracle::job::{self, Job};
+use oracle::job::Job;
 use oracle::replay::{self, faults};
 use oracle::run::{Outcome, Plan, print, run};
 use oracle::switches::{self, Switches};
-use oracle::{entry, generate};
-use std::path::Path;
 use std::sync::OnceLock;
 use std::sync::atomic::{AtomicU64, Ordering};
-
-fn stored(name: &str) -> Job {
-    let path = Path::new(env!("CARGO_MANIFEST_DIR")).join(format!("../jobs/{name}.job"));
-    let text = std::fs::read_to_string(&path).unwrap_or_else(|e| panic!("{}: {e}", path.display()));
-    job::parse(&text).unwrap_or_else(|e| panic!("{name}: {e}"))
-}
-
-/// Planned within about a second: few of the larger jobs would take most of the time.
-fn quick(job: &Job) -> bool {
-    let cells = || {
-        let (nx, ny) = entry::sides(&job.regions().0, job.cell());
-        nx * ny
-    };
-    entry::refused(job).is_some() || job.params.max_engagement_deg >= 30.0 && cells() <= 25_000
-}
 
 /// Jobs of all kinds, apart from the stored ones, on two threads.
 #[test]

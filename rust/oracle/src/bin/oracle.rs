@@ -1,10 +1,12 @@
 //! oracle [OPTION...] JOB...      plans jobs and prints the answers
+//! oracle --fingerprint JOB...    one line a job: name, answer, FNV-1a of the whole answer's text
 //! oracle --derived FILE          prints a derived source (adaptive.rs, raster.rs, geom.rs, error.rs)
 use oracle::hooks::Event;
 use oracle::job::{self, hex};
 use oracle::run::{self, Outcome};
 use oracle::switches::{self, Switches};
 use oracle::{DERIVED, replay};
+use std::path::Path;
 use std::process::ExitCode;
 
 const USAGE: &str = "oracle [--brief] [--trace] [--replay] [--time] [--plain-rim] [--buckets] [--higher-first] [--first-wins] JOB...
@@ -16,10 +18,13 @@ const USAGE: &str = "oracle [--brief] [--trace] [--replay] [--time] [--plain-rim
   --buckets       walls by the printed buckets (else every segment, as document 01 asks)
   --higher-first  wrong on purpose: the higher node number on equal estimates
   --first-wins    wrong on purpose: the first insert wins in the contour's edge map
-oracle --derived FILE";
+oracle --fingerprint JOB...
+  one line a job: name, answer, FNV-1a (64 bits) of the whole text
+oracle --derived FILE
+  a derived source: adaptive.rs, raster.rs, geom.rs, error.rs";
 
 fn main() -> ExitCode {
-    let (mut brief, mut trace, mut replayed, mut time) = (false, false, false, false);
+    let (mut brief, mut trace, mut replayed, mut time, mut short) = (false, false, false, false, false);
     let mut how = Switches::default();
     let mut files = Vec::new();
     let mut words = std::env::args().skip(1);
@@ -29,6 +34,7 @@ fn main() -> ExitCode {
             "--trace" => trace = true,
             "--replay" => replayed = true,
             "--time" => time = true,
+            "--fingerprint" => short = true,
             "--plain-rim" => how.plain_rim = true,
             "--buckets" => how.buckets = true,
             "--higher-first" => how.higher_first = true,
@@ -49,6 +55,12 @@ fn main() -> ExitCode {
             Ok(job) => job,
             Err(e) => return fail(&format!("{file}: {e}")),
         };
+        if short {
+            let text = run::print(&run::run(&job, false), false);
+            let name = Path::new(file).file_stem().unwrap_or_default().display();
+            println!("{name} {}", run::fingerprint_line(&text));
+            continue;
+        }
         if files.len() > 1 {
             println!("job {file}");
         }
