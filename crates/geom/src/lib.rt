@@ -1,2 +1,3 @@
 // Planar geometry (geom.rs of the Rust): vectors, and loops and regions over lent vertices.
+pub mod region;
 pub mod vec2;
