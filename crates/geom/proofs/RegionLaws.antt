@@ -56,9 +56,13 @@ module _ (lens : List ℕ) (g : Region) where
       let b = loop f 0 l (g .at) in
       subst (λ (n : ℕ). b ≤ n) (sym (loop-split f 0 l k (g .at) (omega arith) h)) (loop-keeps f l (λ (n : ℕ). b ≤ n) k (λ i s a c p. omega arith) b (omega arith))
 
+  -- loop l ends before the region does
+  pub loop-within : (l : ℕ) → l < g .loops → startOf lens g l + sizeOf lens g l ≤ startOf lens g (g .loops)
+  loop-within l k = omega (arith, start-next l, start-le (l + 1) (g .loops) (omega arith))
+
   -- the vertices of loop l are lent
   pub loop-held : (vs : List Float) → Held vs lens g → (l : ℕ) → l < g .loops → 2 * (startOf lens g l + sizeOf lens g l) ≤ length vs
-  loop-held vs h l k = omega (arith, start-next l, start-le (l + 1) (g .loops) (omega arith), h .vertices)
+  loop-held vs h l k = omega (arith, loop-within l k, h .vertices)
 
   -- the same of the first loop, whose size is n
   pub first-held : (vs : List Float) → Held vs lens g → (n : ℕ) → n ≡ getD lens (g .first) 0 → 2 * (g .at + n) ≤ length vs
