@@ -1,0 +1,7 @@
+pub mod NumberLaws
+pub mod WroteLaws
+pub mod ColumnLaws
+pub mod EnvelopeLaws
+pub mod RowLaws
+pub mod Nearest
+pub mod Marked
