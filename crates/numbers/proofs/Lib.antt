@@ -1,3 +1,5 @@
+pub mod CastLaws
+pub mod OrderLaws
 pub mod WholeLaws
 pub mod PartLaws
 pub mod NarrowLaws

@@ -15,10 +15,12 @@ use lib.Ieee.{Float, nan, inf, fin, binary64, up, down, size, units, round, lt, 
 use lib.Ieee.Bits.{nanBits-above}
 use lib.Ieee.Fits.{up-pos, down-pos}
 use lib.Ieee.Positive.{num, den, positive, den-pos}
-use borrow.Author.Tests.{leb-true, leb-false, ltb-true, ltb-false, le-leb, lt-leb, le-ltb, lt-ltb, eqb-true, eq-eqb, ne-eqb}
+use borrow.Author.Tests.{leb-true, leb-false, ltb-true, ltb-false, le-leb, lt-leb, le-ltb, lt-ltb, eqb-true, eqb-false, eq-eqb, ne-eqb}
 use Rattle.floats.proofs.RoundLaws.{round-normal, round-bits, closest-is}
 use Rattle.numbers.proofs.PartLaws.{joined}
 use Rattle.numbers.proofs.WholeLaws.{nought}
+use Rattle.numbers.proofs.OrderLaws.{zero-equal, not-zero}
+use Rattle.loops.proofs.Cases.{by-cases}
 use Rattle.numbers.specs.Narrow.{Normal}
 use Rattle.numbers.specs.Root.{stepRoot, rootIn, rootOfNat, sticky, rootOf, NearRoot}
 
@@ -119,6 +121,15 @@ two-words h hi l lo L O = go (decLt h hi) (decLt hi h)
         ap (λ (b : Bool). b || (eqb h hi && leb l lo)) (le-ltb h hi (le-of-eq (sym e)))
         ∙ ap (λ (b : Bool). b && leb l lo) (eq-eqb h hi e)
         ∙ same-leb l lo n m (λ k. omega arith) (λ k. omega arith)
+
+-- the square of 2 * q is within 4 * q of n
+pub near-square : (n q : ℕ) → 0 < q → 2 * q * (2 * q) < n + 4 * q → n ≤ 2 * q * (2 * q) + 4 * q → NearRoot n q
+near-square n q Q lo hi =
+    let y = 2 * q - 1 in
+    let e : 2 * q ≡ y + 1 = omega arith in
+    let a : 2 * q * (2 * q) ≡ y * y + 2 * (y * 1) + 1 * 1 = ap (λ (z : ℕ). z * z) e ∙ sum-sq y 1 in
+    let b : (2 * q + 1) * (2 * q + 1) ≡ 2 * q * (2 * q) + 2 * (2 * q * 1) + 1 * 1 = sum-sq (2 * q) 1 in
+    record { lo = omega arith; hi = omega arith }
 
 -- ---- a digit of the slow root: i falls by one
 abbrev pub Bracket : ℕ → ℕ → ℕ → Type 0
@@ -372,25 +383,32 @@ module _ (x : Float) (m e c g q : ℕ) (P : T (positive x)) (Y : Normal x m e) (
       at (fin false zero e) p = absurd p
       at (fin false (suc m) e) p = refl
 
--- what the arms of `root_up` cite: the result's pattern
-pub record Arm (x : Float) (e q : ℕ) : Type 0 where
+-- what `root_up` cites: the result's pattern
+pub record Result (x : Float) (e q : ℕ) : Type 0 where
   pub few : (e / 2 + 485) * 2 ^ 52 + q < 2047 * 2 ^ 52
   pub is : ofBits binary64 ((e / 2 + 485) * 2 ^ 52 + q) ≡ rootOf x
 
-module _ (x : Float) (m e q : ℕ) (P : T (positive x)) (Y : Normal x m e) where
-  pub even-arm : e % 2 ≡ 0 → NearRoot (m / 1024 * 2 ^ 54 + m % 1024 * 2 ^ 44) q → Arm x e q
-  even-arm h N =
-      let C : e + 44 ≡ 44 + (e / 2 + e / 2) = omega arith in
-      let M : m / 1024 * 2 ^ 54 + m % 1024 * 2 ^ 44 ≡ m * 2 ^ 44 = omega arith in
-      let R : NearRoot (m * 2 ^ 44) q = subst (λ (z : ℕ). NearRoot z q) M N in
-      record { few = pattern-lt x m e 44 (e / 2) q P Y C (lit≤ tt) (lit≤ tt) R; is = root-bits x m e 44 (e / 2) q P Y C (lit≤ tt) (lit≤ tt) R }
+pub result : (x : Float) (m e q : ℕ) → T (positive x) → Normal x m e → NearRoot ((m / 1024 + m / 1024 * (e % 2)) * 2 ^ 54) q → Result x e q
+result x m e q P Y N = by-cases (eqb (e % 2) 0) (λ h. even (eqb-true (e % 2) 0 h)) (λ h. odd (eqb-false (e % 2) 0 h))
+  where
+    at : (c : ℕ) → e + 44 ≡ c + (e / 2 + e / 2) → 44 ≤ c → c ≤ 45 → NearRoot (m * 2 ^ c) q → Result x e q
+    at c C a b R = record { few = pattern-lt x m e c (e / 2) q P Y C a b R; is = root-bits x m e c (e / 2) q P Y C a b R }
 
-  pub odd-arm : (e % 2 ≡ 0 → ⊥) → NearRoot (m / 512 * 2 ^ 54 + m % 512 * 2 ^ 45) q → Arm x e q
-  odd-arm h N =
-      let C : e + 44 ≡ 45 + (e / 2 + e / 2) = omega arith in
-      let M : m / 512 * 2 ^ 54 + m % 512 * 2 ^ 45 ≡ m * 2 ^ 45 = omega arith in
-      let R : NearRoot (m * 2 ^ 45) q = subst (λ (z : ℕ). NearRoot z q) M N in
-      record { few = pattern-lt x m e 45 (e / 2) q P Y C (lit≤ tt) (lit≤ tt) R; is = root-bits x m e 45 (e / 2) q P Y C (lit≤ tt) (lit≤ tt) R }
+    same : (d k : ℕ) (n : ℕ) → e % 2 ≡ k → (d + d * k) * 2 ^ 54 ≡ n → m / 1024 ≡ d → NearRoot n q
+    same d k n h g i = subst (λ (z : ℕ). NearRoot z q) (ap (λ (z : ℕ). (m / 1024 + m / 1024 * z) * 2 ^ 54) h ∙ ap (λ (z : ℕ). (z + z * k) * 2 ^ 54) i ∙ g) N
+
+    even : e % 2 ≡ 0 → Result x e q
+    even h =
+        let C : e + 44 ≡ 44 + (e / 2 + e / 2) = omega arith in
+        let M : (m / 1024 + m / 1024 * 0) * 2 ^ 54 ≡ m * 2 ^ 44 = omega (arith, Y .end) in
+        at 44 C (lit≤ tt) (lit≤ tt) (same (m / 1024) 0 (m * 2 ^ 44) h M refl)
+
+    odd : (e % 2 ≡ 0 → ⊥) → Result x e q
+    odd h =
+        let o : e % 2 ≡ 1 = omega arith in
+        let C : e + 44 ≡ 45 + (e / 2 + e / 2) = omega arith in
+        let M : (m / 1024 + m / 1024 * 1) * 2 ^ 54 ≡ m * 2 ^ 45 = omega (arith, Y .end) in
+        at 45 C (lit≤ tt) (lit≤ tt) (same (m / 1024) 1 (m * 2 ^ 45) o M refl)
 
 -- a pattern below the infinity's is no NaN's
 pub no-nan-bits : (b : ℕ) → b < 2047 * 2 ^ 52 → T (not (nanBits binary64 b))
@@ -407,37 +425,19 @@ root-top (inf true) a b = absurd (true≢false (sym a))
 root-top (inf false) a b = refl
 root-top (fin s m e) a b = absurd (true≢false b)
 
-first : (a b : Bool) → (a && b) ≡ true → a ≡ true
-first true b h = refl
-first false b h = h
-
-level-true : (a b : ℕ) (t : Bool) → a ≡ b → a ≡ 0 → (eqb a b && (t || eqb a 0)) ≡ true
-level-true a b t p q = ap (λ (z : Bool). z && (t || eqb a 0)) (eq-eqb a b p) ∙ ap (λ (z : Bool). t || z) (eq-eqb a 0 q) ∙ either t
-  where
-    either : (t : Bool) → (t || true) ≡ true
-    either true = refl
-    either false = refl
-
 pub root-zero : (x : Float) → eq x nought ≡ true → x ≡ rootOf x
 unfolding rootOf eq
 root-zero nan a = absurd (true≢false (sym a))
 root-zero (inf s) a = absurd (true≢false (sym a))
 root-zero (fin s zero e) a = refl
-root-zero (fin s (suc m) e) a =
-    absurd (go (suc m * up e) (down e) (mul-pos (zero-lt-suc m) (up-pos e)) (eqb-true (suc m * up e * 1) (0 * down e) (first (eqb (suc m * up e * 1) (0 * down e)) (Bool·beq s false || eqb (suc m * up e * 1) 0) a)))
-  where
-    go : (n d : ℕ) → 0 < n → n * 1 ≡ 0 * d → ⊥
-    go n d h k = omega arith
+root-zero (fin s (suc m) e) a = not-zero s m e a
 
 pub root-none : (x : Float) → lt nought x ≡ false → eq x nought ≡ false → nan ≡ rootOf x
 unfolding rootOf lt eq
 root-none nan a b = refl
 root-none (inf true) a b = refl
 root-none (inf false) a b = absurd (true≢false a)
-root-none (fin s zero e) a b =
-    let x : 0 * up e * 1 ≡ 0 * down e = omega arith in
-    let y : 0 * up e * 1 ≡ 0 = omega arith in
-    absurd (true≢false (sym (level-true (0 * up e * 1) (0 * down e) (Bool·beq s false) x y) ∙ b))
+root-none (fin s zero e) a b = absurd (true≢false (sym (zero-equal s e) ∙ b))
 root-none (fin true (suc m) e) a b = refl
 root-none (fin false (suc m) e) a b = absurd (go (suc m * up e) (down e) (mul-pos (zero-lt-suc m) (up-pos e)) (ltb-false (0 * down e) (suc m * up e * 1) a))
   where
