@@ -1,2 +1,14 @@
 pub mod RoundLaws
 pub mod OrderLaws
+pub mod IndexLaws
+pub mod SignLaws
+pub mod ExactLaws
+pub mod NextLaws
+pub mod SwapLaws
+pub mod ShareLaws
+pub mod RoundMono
+pub mod AddMono
+pub mod NumberLaws
+pub mod MulMono
+pub mod DivMono
+pub mod ThresholdLaws

@@ -5,3 +5,5 @@ pub mod PartLaws
 pub mod NarrowLaws
 pub mod RootLaws
 pub mod HalfLaws
+pub mod RootMono
+pub mod GuardLaws
