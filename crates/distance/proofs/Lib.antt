@@ -3,5 +3,6 @@ pub mod WroteLaws
 pub mod ColumnLaws
 pub mod EnvelopeLaws
 pub mod RowLaws
+pub mod RootedLaws
 pub mod Nearest
 pub mod Marked

@@ -4,3 +4,4 @@ pub mod Least
 pub mod Wrote
 pub mod Column
 pub mod Envelope
+pub mod Rooted

@@ -11,7 +11,7 @@ use Rattle.floats.proofs.OrderLaws.{le-refl, le-lt, lt-le, lt-numbers, lt-to-le
 use Rattle.floats.proofs.SignLaws.{sign-up}
 use Rattle.floats.proofs.SwapLaws.{mul-swap}
 use Rattle.floats.proofs.ShareLaws.{Normal, c50, c85, c95, lt-95, lt-95-right, lt-half, lt-half-right, half-above, le-85, le-85-right}
-use Rattle.numbers.specs.Whole.{maxOf, minOf}
+use Rattle.numbers.specs.Order.{maxOf, minOf}
 use Rattle.numbers.proofs.WholeLaws.{nought}
 
 -- ---- max and min

@@ -1,0 +1,26 @@
+-- The roots of a list of squares. Assumes nothing.
+use mathlib.Core.Path.{_≡_, refl, _∙_, subst}
+use mathlib.Core.Logic.{⊎-elim}
+use mathlib.Core.List.{List}
+use Prim.Native.Nat.{ℕ, _+_, _≤_, _<_}
+use native.Mathlib.Omega.{arith}
+use lib.ListN.{length, getD, set}
+use lib.Seq.{getD-set-same, getD-set-other}
+use lib.Ieee.{Float, nan}
+use Rattle.distance.specs.Rooted.{distanceOf, Rooted}
+use Rattle.distance.proofs.NumberLaws.{lt-or-le}
+
+pub rooted-none : (q : List ℕ) (s : List Float) → Rooted 0 q s s
+rooted-none q s = record { root = λ k a. absurd (let z : ⊥ = omega arith in z); rest = λ k a. refl }
+
+pub rooted-more : (n : ℕ) (q : List ℕ) (s t : List Float) (v : Float) → Rooted n q s t → n < length t → v ≡ distanceOf (getD q n 0) → Rooted (n + 1) q s (set t n v)
+rooted-more n q s t v r l e = record {
+  root = λ k a. ⊎-elim
+      (λ b. getD-set-other t n k v nan (λ z. omega arith) ∙ r .root k b)
+      (λ b. let z : n ≡ k = omega arith in subst (λ (i : ℕ). getD (set t n v) i nan ≡ distanceOf (getD q i 0)) z (getD-set-same t n v nan l ∙ e))
+      (lt-or-le k n);
+  rest = λ k a. getD-set-other t n k v nan (λ z. omega arith) ∙ r .rest k (omega arith);
+}
+
+pub rooted-same : {n l : ℕ} {q : List ℕ} {s t : List Float} → n ≡ l → Rooted n q s t → Rooted l q s t
+rooted-same {n} {l} {q} {s} {t} e r = subst (λ (i : ℕ). Rooted i q s t) e r
