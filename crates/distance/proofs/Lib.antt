@@ -4,5 +4,6 @@ pub mod ColumnLaws
 pub mod EnvelopeLaws
 pub mod RowLaws
 pub mod RootedLaws
+pub mod LimitLaws
 pub mod Nearest
 pub mod Marked

@@ -5,3 +5,4 @@ pub mod Wrote
 pub mod Column
 pub mod Envelope
 pub mod Rooted
+pub mod Limits

@@ -7,6 +7,7 @@ ghost use lib.ListN.{length};
 ghost use Rattle.distance.specs.Least.{Transformed, Sides};
 
 mod columns;
+pub mod limits;
 pub mod roots;
 mod rows;
 mod write;
