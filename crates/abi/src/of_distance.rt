@@ -1,9 +1,13 @@
 // The functions of `distance`.
 ghost use mathlib.Core.Path.{_≡_};
-ghost use Prim.Native.Nat.{_+_, _*_, _≤_};
+ghost use Prim.Native.Nat.{ℕ, _+_, _*_, _≤_, _<_};
 ghost use lib.ListN.{length};
-ghost use Rattle.distance.specs.Least.{Transformed, Sides};
+ghost use lib.Dec.{ltb};
+ghost use lib.Ieee as Ieee;
+ghost use Rattle.distance.specs.Least.{Transformed, Sides, far};
 ghost use Rattle.distance.specs.Rooted.{Rooted};
+ghost use Rattle.distance.specs.Limits.{lengthOf, passesOf};
+use distance::limits::Bound;
 
 #[no_mangle]
 pub extern "C" fn distance_transform(marks: &[u8], mark: u8, nx: usize, ny: usize, work: &mut [u32])
@@ -22,4 +26,56 @@ pub extern "C" fn distance_distances(squares: &[u32], n: usize, out: &mut [f64])
     ensures { λ _. ⌜ Rooted n (now (squares .entry)) (now (out .entry)) (now (out .exit)) ⌝ }
 {
     distance::roots::distances(squares, n, out);
+}
+
+// The first square that fails a bound, u32::MAX where none is told.
+#[no_mangle]
+pub extern "C" fn distance_limit(scaled: bool, scale: f64, strict: bool, x: f64) -> u32
+    ensures { λ r. ⌜ (r < far → (d : ℕ) → d ≤ far → passesOf scaled scale strict x d ≡ ltb d r) ⌝ }
+{
+    let b = Bound {
+        scaled,
+        scale,
+        strict,
+        x,
+    };
+    let l = distance::limits::limit_of(b);
+    if l.told {
+        return l.below;
+    }
+    4294967295
+}
+
+#[no_mangle]
+pub extern "C" fn distance_within(
+    scaled: bool,
+    scale: f64,
+    strict: bool,
+    x: f64,
+    square: u32,
+) -> bool
+    ensures { λ r. ⌜ r ≡ passesOf scaled scale strict x square ⌝ }
+{
+    let b = Bound {
+        scaled,
+        scale,
+        strict,
+        x,
+    };
+    let l = distance::limits::limit_of(b);
+    distance::limits::within(b, l, square)
+}
+
+#[no_mangle]
+pub extern "C" fn distance_beyond(scaled: bool, scale: f64, x: f64, square: u32) -> bool
+    ensures { λ r. ⌜ r ≡ Ieee.lt x (lengthOf scaled scale square) ⌝ }
+{
+    let b = Bound {
+        scaled,
+        scale,
+        strict: false,
+        x,
+    };
+    let l = distance::limits::limit_of(b);
+    distance::limits::beyond(b, l, square)
 }

@@ -66,6 +66,9 @@ fn ordered(b: Bound) -> bool
 // Where the first square that fails is sought.
 fn guess(b: Bound) -> u32 {
     let y = if b.scaled { b.x / b.scale } else { b.x };
+    if y < 0.0 {
+        return 0;
+    }
     numbers::cast::sat_u32(y * y)
 }
 
