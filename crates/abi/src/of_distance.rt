@@ -4,8 +4,8 @@ ghost use Prim.Native.Nat.{ℕ, _+_, _*_, _≤_, _<_};
 ghost use lib.ListN.{length};
 ghost use lib.Dec.{ltb};
 ghost use lib.Ieee as Ieee;
-ghost use Rattle.distance.specs.Least.{Transformed, Sides, far};
-ghost use Rattle.distance.specs.Rooted.{Rooted};
+ghost use Rattle.distance.specs.Least.{Sides, far, transformOf};
+ghost use Rattle.distance.specs.Rooted.{distancesOf};
 ghost use Rattle.distance.specs.Limits.{lengthOf, passesOf};
 use distance::limits::Bound;
 
@@ -14,7 +14,7 @@ pub extern "C" fn distance_transform(marks: &[u8], mark: u8, nx: usize, ny: usiz
     requires { ⌜ Sides nx ny ⌝ }
     requires { ⌜ ny * nx ≤ length (now marks) ⌝ }
     requires { ⌜ ny * nx + 3 * nx ≤ length (now work) ⌝ }
-    ensures { λ _. ⌜ Transformed mark (now (marks .entry)) nx ny (now (work .entry)) (now (work .exit)) ⌝ }
+    ensures { λ _. ⌜ now (work .exit) ≡ transformOf mark (now (marks .entry)) nx ny (now (work .entry)) ⌝ }
 {
     distance::transform(marks, mark, nx, ny, work);
 }
@@ -23,7 +23,7 @@ pub extern "C" fn distance_transform(marks: &[u8], mark: u8, nx: usize, ny: usiz
 pub extern "C" fn distance_distances(squares: &[u32], n: usize, out: &mut [f64])
     requires { ⌜ n ≤ length (now squares) ⌝ }
     requires { ⌜ n ≤ length (now out) ⌝ }
-    ensures { λ _. ⌜ Rooted n (now (squares .entry)) (now (out .entry)) (now (out .exit)) ⌝ }
+    ensures { λ _. ⌜ now (out .exit) ≡ distancesOf n (now (squares .entry)) (now (out .entry)) ⌝ }
 {
     distance::roots::distances(squares, n, out);
 }

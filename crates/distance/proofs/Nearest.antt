@@ -3,14 +3,14 @@ use mathlib.Core.Path.{_≡_, refl, sym, ap, _∙_, subst}
 use mathlib.Core.Bool.{Bool, true, false, cond}
 use mathlib.Core.Logic.{_⊎_, inl, inr, ⊎-elim}
 use mathlib.Core.List.{List, [], _∷_, _++_}
-use Prim.Native.Nat.{ℕ, zero, suc, _+_, _*_, _/_, _%_, _≤_, _<_, min}
+use Prim.Native.Nat.{ℕ, zero, suc, _+_, _-_, _*_, _/_, _%_, _≤_, _<_, min}
 use native.Mathlib.Nat.{mod-lt, div-add-mod', div-lt-iff-lt-mul}
 use native.Mathlib.Omega.{arith}
-use lib.ListN.{length, getD, take, drop, length-append, length-take, List·getD-append}
-use lib.Seq.{ext-getD, getD-append-add, getD-take}
+use lib.ListN.{length, getD, take, drop, replicate, length-append, length-take, length-drop, length-replicate, List·getD-append, getD-replicate}
+use lib.Seq.{ext-getD, getD-append-add, getD-take, getD-drop}
 use lib.Dec.{eqb}
 use borrow.Author.Tests.{eqb-true, eqb-false}
-use Rattle.distance.specs.Least.{Least, some, none, far, Cell, at, gap, apart, Mark, Transformed, Sides, nearestInRow, nearest, listed, squaresOf}
+use Rattle.distance.specs.Least.{Least, some, none, far, Cell, at, gap, apart, Mark, Transformed, Sides, nearestInRow, nearest, listed, squaresOf, transformOf}
 use Rattle.distance.proofs.NumberLaws.{lt-or-le, product}
 
 -- at most one number is least
@@ -124,3 +124,41 @@ squares-are mark m nx ny s t z long r = ext-getD 0 _ _ lengths (λ k h. let b : 
     each k h =
         ap (λ (i : ℕ). getD t i 0) (sym (div-add-mod' k nx))
         ∙ transformed-is mark m nx ny s t z r (k % nx) (k / nx) (mod-lt k (z .column)) (div-lt-iff-lt-mul (z .column) .1 h)
+
+-- a list by its two parts
+pub two-parts : {A : Type 0} (d : A) (t xs ys : List A) → length t ≡ length xs + length ys → ((k : ℕ) → k < length xs → getD t k d ≡ getD xs k d) → ((k : ℕ) → k < length ys → getD t (length xs + k) d ≡ getD ys k d) → t ≡ xs ++ ys
+two-parts d t xs ys long f g = ext-getD d t (xs ++ ys) (simp length-append long) (λ k h. ⊎-elim
+    (λ a. f k a ∙ sym (List·getD-append xs ys d k a))
+    (λ a.
+    let e : k ≡ length xs + (k - length xs) = omega arith in
+    ap (λ (i : ℕ). getD t i d) e ∙ g (k - length xs) (omega arith) ∙ sym (getD-append-add xs ys (k - length xs) d) ∙ ap (λ (i : ℕ). getD (xs ++ ys) i d) (sym e))
+    (lt-or-le k (length xs)))
+
+abbrev zeros : ℕ → List ℕ
+zeros n = replicate n 0
+
+-- the lent slice as a whole
+pub work-is : (mark : ℕ) (m : List ℕ) (nx ny : ℕ) (s t : List ℕ) → Sides nx ny → ny * nx + 3 * nx ≤ length s → length t ≡ length s → Transformed mark m nx ny s t → t ≡ transformOf mark m nx ny s
+unfolding transformOf
+work-is mark m nx ny s t z long same r = two-parts 0 t (squaresOf mark m nx ny) (replicate (3 * nx) 0 ++ drop (ny * nx + 3 * nx) s)
+    (simp (length-append, length-replicate, length-drop) (omega (arith, size)))
+    (λ k h. let b : k < ny * nx = omega (arith, size) in sym (getD-take (ny * nx) t k 0 b) ∙ ap (λ (l : List ℕ). getD l k 0) (squares-are mark m nx ny s t z (omega arith) r))
+    (λ k h. rw size (rest k))
+  where
+    size : length (squaresOf mark m nx ny) ≡ ny * nx
+    size = ap length (sym (squares-are mark m nx ny s t z (omega arith) r)) ∙ simp length-take (omega arith)
+
+    beyond : (k : ℕ) → 3 * nx ≤ k → getD t (ny * nx + k) 0 ≡ getD (zeros (3 * nx) ++ drop (ny * nx + 3 * nx) s) k 0
+    beyond k a =
+        let n : length (zeros (3 * nx)) ≡ 3 * nx = length-replicate (3 * nx) 0 in
+        let e : k ≡ length (zeros (3 * nx)) + (k - 3 * nx) = omega arith in
+        let i : ny * nx + k ≡ ny * nx + 3 * nx + (k - 3 * nx) = omega arith in
+        r .rest (ny * nx + k) (omega arith)
+        ∙ ap (λ (j : ℕ). getD s j 0) i
+        ∙ sym (ap (λ (j : ℕ). getD (zeros (3 * nx) ++ drop (ny * nx + 3 * nx) s) j 0) e ∙ getD-append-add (zeros (3 * nx)) (drop (ny * nx + 3 * nx) s) (k - 3 * nx) 0 ∙ getD-drop (ny * nx + 3 * nx) s (k - 3 * nx) 0)
+
+    rest : (k : ℕ) → getD t (ny * nx + k) 0 ≡ getD (zeros (3 * nx) ++ drop (ny * nx + 3 * nx) s) k 0
+    rest k = ⊎-elim
+        (λ a. r .scratch k a ∙ sym (List·getD-append (zeros (3 * nx)) _ 0 k (simp length-replicate a) ∙ getD-replicate (3 * nx) k 0 0 a))
+        (beyond k)
+        (lt-or-le k (3 * nx))

@@ -1,14 +1,16 @@
 -- The roots of a list of squares. Assumes nothing.
-use mathlib.Core.Path.{_≡_, refl, _∙_, subst}
+use mathlib.Core.Path.{_≡_, refl, sym, ap, _∙_, subst}
 use mathlib.Core.Logic.{⊎-elim}
 use mathlib.Core.List.{List}
 use Prim.Native.Nat.{ℕ, _+_, _≤_, _<_}
 use native.Mathlib.Omega.{arith}
-use lib.ListN.{length, getD, set}
-use lib.Seq.{getD-set-same, getD-set-other}
+use lib.ListN.{length, getD, set, drop, length-drop}
+use lib.Seq.{getD-set-same, getD-set-other, getD-drop}
 use lib.Ieee.{Float, nan}
-use Rattle.distance.specs.Rooted.{distanceOf, Rooted}
+use Rattle.distance.specs.Rooted.{distanceOf, Rooted, distancesOf}
+use Rattle.distance.specs.Least.{listed}
 use Rattle.distance.proofs.NumberLaws.{lt-or-le}
+use Rattle.distance.proofs.Nearest.{listed-long, listed-at, two-parts}
 
 pub rooted-none : (q : List ℕ) (s : List Float) → Rooted 0 q s s
 rooted-none q s = record { root = λ k a. absurd (let z : ⊥ = omega arith in z); rest = λ k a. refl }
@@ -24,3 +26,11 @@ rooted-more n q s t v r l e = record {
 
 pub rooted-same : {n l : ℕ} {q : List ℕ} {s t : List Float} → n ≡ l → Rooted n q s t → Rooted l q s t
 rooted-same {n} {l} {q} {s} {t} e r = subst (λ (i : ℕ). Rooted i q s t) e r
+
+-- the lent slice as a whole
+pub distances-are : (n : ℕ) (q : List ℕ) (s t : List Float) → n ≤ length s → length t ≡ length s → Rooted n q s t → t ≡ distancesOf n q s
+unfolding distancesOf
+distances-are n q s t long same r = two-parts nan t (listed n (λ k. distanceOf (getD q k 0))) (drop n s)
+    (simp length-drop (omega (arith, listed-long (λ k. distanceOf (getD q k 0)) nan n)))
+    (λ k h. let b : k < n = omega (arith, listed-long (λ k. distanceOf (getD q k 0)) nan n) in r .root k b ∙ sym (listed-at (λ k. distanceOf (getD q k 0)) nan n k b))
+    (λ k h. rw (listed-long (λ k. distanceOf (getD q k 0)) nan n) (r .rest (n + k) (omega arith) ∙ sym (getD-drop n s k nan)))

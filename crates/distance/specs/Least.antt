@@ -3,7 +3,7 @@ use mathlib.Core.Path.{_≡_}
 use mathlib.Core.List.{List, [], _∷_, _++_}
 use mathlib.Core.Bool.{cond}
 use Prim.Native.Nat.{ℕ, zero, suc, _+_, _-_, _*_, _/_, _%_, _≤_, _<_, min}
-use lib.ListN.{getD}
+use lib.ListN.{getD, drop, replicate}
 use lib.Dec.{eqb}
 use Rattle.loops.specs.Cells.{number}
 
@@ -73,3 +73,7 @@ listed (suc n) f = listed n f ++ (f n ∷ [])
 -- the squares of the map, by cell number
 unfoldable pub squaresOf : ℕ → List ℕ → ℕ → ℕ → List ℕ
 squaresOf mark m nx ny = listed (ny * nx) (λ k. nearest mark m nx (at (k % nx) (k / nx)) ny)
+
+-- what `transform` leaves of s
+unfoldable pub transformOf : ℕ → List ℕ → ℕ → ℕ → List ℕ → List ℕ
+transformOf mark m nx ny s = squaresOf mark m nx ny ++ (replicate (3 * nx) 0 ++ drop (ny * nx + 3 * nx) s)

@@ -4,7 +4,7 @@
 ghost use mathlib.Core.Path.{_≡_};
 ghost use Prim.Native.Nat.{_+_, _*_, _≤_};
 ghost use lib.ListN.{length};
-ghost use Rattle.distance.specs.Least.{Transformed, Sides};
+ghost use Rattle.distance.specs.Least.{Transformed, Sides, transformOf};
 
 mod columns;
 pub mod limits;
@@ -19,6 +19,7 @@ pub fn transform(marks: &[u8], mark: u8, nx: usize, ny: usize, work: &mut [u32])
     requires { ⌜ ny * nx ≤ length (now marks) ⌝ }
     requires { ⌜ ny * nx + 3 * nx ≤ length (now work) ⌝ }
     ensures { λ _. ⌜ Transformed mark (now (marks .entry)) nx ny (now (work .entry)) (now (work .exit)) ⌝ }
+    ensures { λ _. ⌜ now (work .exit) ≡ transformOf mark (now (marks .entry)) nx ny (now (work .entry)) ⌝ }
 {
     let cells = ny * nx;
     columns::first(marks, mark, nx, ny, work);

@@ -2,7 +2,7 @@
 ghost use mathlib.Core.Path.{_≡_};
 ghost use Prim.Native.Nat.{_≤_};
 ghost use lib.ListN.{length};
-ghost use Rattle.distance.specs.Rooted.{distanceOf, Rooted};
+ghost use Rattle.distance.specs.Rooted.{distanceOf, distancesOf};
 
 pub fn distance_of(square: u32) -> f64
     ensures { λ r. ⌜ r ≡ distanceOf square ⌝ }
@@ -17,7 +17,7 @@ pub fn distance_of(square: u32) -> f64
 pub fn distances(squares: &[u32], n: usize, out: &mut [f64])
     requires { ⌜ n ≤ length (now squares) ⌝ }
     requires { ⌜ n ≤ length (now out) ⌝ }
-    ensures { λ _. ⌜ Rooted n (now (squares .entry)) (now (out .entry)) (now (out .exit)) ⌝ }
+    ensures { λ _. ⌜ now (out .exit) ≡ distancesOf n (now (squares .entry)) (now (out .entry)) ⌝ }
 {
     for k in 0..n {
         out[k] = distance_of(squares[k]);

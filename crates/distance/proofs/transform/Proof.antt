@@ -1,8 +1,9 @@
 -- `distance::transform` meets its contract. Assumes nothing.
-use mathlib.Core.Path.{refl}
+use mathlib.Core.Path.{refl, _∙_}
 use native.Mathlib.Omega.{arith}
 use Rattle.distance.proofs.NumberLaws.{one-row}
 use Rattle.distance.proofs.RowLaws.{down-self, transformed}
+use Rattle.distance.proofs.Nearest.{work-is}
 use borrow.Author.Needs.{needs}
 use Rattle.distance.proofs.transform.Statement.{statement}
 use Rattle.distance.proofs.transform.Tie as tie
@@ -44,7 +45,8 @@ returns c =
     let d = u .before .before .before .before in
     let f = d .before .before .before .before in
     let x = f .before .before .before .before in
-    transformed (one-row (x .args .nx) (x .args .ny) (x .pre .0 .row)) (f .first .ensures) (d .down .ensures) (u .up .ensures _ _ (down-self (d .down .ensures))) (r .all .ensures) (c .before .before .put .ensures)
+    let t = transformed (one-row (x .args .nx) (x .args .ny) (x .pre .0 .row)) (f .first .ensures) (d .down .ensures) (u .up .ensures _ _ (down-self (d .down .ensures))) (r .all .ensures) (c .before .before .put .ensures) in
+    (t, work-is _ _ _ _ _ _ (x .pre .0) (x .pre .1 .1) (c .before .before .put .kept .0 ∙ r .all .kept .1 .1 .1 .0 ∙ u .up .kept .1 .1 .1 .0 ∙ d .down .kept .1 .1 .1 .1 .1 .0 ∙ f .first .kept .1 .1 .1 .1 .0) t)
 
 pub transform-spec : {M : Type 1} → statement M
 transform-spec =

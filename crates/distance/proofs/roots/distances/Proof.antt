@@ -6,7 +6,7 @@ use native.Mathlib.Omega.{arith}
 use lib.ListN.{length, length-set}
 use lib.Ieee.{Float}
 use Rattle.distance.specs.Rooted.{Rooted}
-use Rattle.distance.proofs.RootedLaws.{rooted-none, rooted-more, rooted-same}
+use Rattle.distance.proofs.RootedLaws.{rooted-none, rooted-more, rooted-same, distances-are}
 use Rattle.distance.proofs.roots.distances.Statement.{statement}
 use Rattle.distance.proofs.roots.distances.Tie as tie
 
@@ -58,7 +58,7 @@ same-length : tie.Need-same-length Inv-loop μ-loop
 same-length c = c .before .loop .inv .long
 
 returns : tie.Need-returns Inv-loop μ-loop
-returns c = rooted-same (omega arith) (c .before .loop .inv .done)
+returns c = let i = c .before .loop .inv in distances-are _ _ _ _ (omega arith) (i .long) (rooted-same (omega arith) (i .done))
 
 pub distances-spec : {M : Type 1} → statement M
 distances-spec =
