@@ -3,7 +3,7 @@ use mathlib.Core.Path.{_≡_, refl, sym, ap, _∙_, subst}
 use mathlib.Core.Logic.{⊎-elim}
 use mathlib.Core.List.{List}
 use Prim.Native.Nat.{ℕ, zero, suc, _+_, _-_, _*_, _≤_, _<_}
-use native.Mathlib.Nat.{mul-le-mul-right}
+use native.Mathlib.Nat.{suc-mul, mul-le-mul-right}
 use native.Mathlib.Omega.{arith}
 use lib.ListN.{length, getD, set}
 use lib.Seq.{getD-set-other}
@@ -12,7 +12,7 @@ use borrow.Author.Tests.{ltb-true, ltb-false, eqb-true, eqb-false}
 use Rattle.loops.proofs.Cases.{by-test}
 use Rattle.distance.specs.Least.{Least, some, none, gap}
 use Rattle.distance.specs.Column.{lost, fromAbove, fromBelow, Above, InColumn, Down, Raised}
-use Rattle.distance.proofs.NumberLaws.{lt-or-le, at-set, row-next, row-in}
+use Rattle.distance.proofs.NumberLaws.{lt-or-le, at-set, row-in}
 
 -- ---- down
 
@@ -70,7 +70,7 @@ module _ (mark : ℕ) (m : List ℕ) (nx k : ℕ) (s t : List ℕ) (d : Down mar
     where
       go : (i j : ℕ) → i < nx → j * nx + i ≡ k → (getD m (j * nx + i) 0 ≡ mark → ⊥) → LeastAbove mark m nx i j lost
       go i zero c e a = down-first mark m nx i a
-      go i (suc j) c e a = absurd (let z : ⊥ = omega (arith, row-next j nx) in z)
+      go i (suc j) c e a = absurd (let z : ⊥ = omega (arith, suc-mul j nx) in z)
 
   -- a cell below another
   pub step-down : (ny : ℕ) → k < ny * nx → ny ≤ 4096 → nx ≤ k → Down mark m nx (k + 1) s (set t k (fromAbove (getD m k 0) mark (getD t (k - nx) 0)))
@@ -83,7 +83,7 @@ module _ (mark : ℕ) (m : List ℕ) (nx k : ℕ) (s t : List ℕ) (d : Down mar
           (λ q. down-lost mark m nx i j a _ (ltb-false _ _ q) (let z = row-of i (suc j) nx ny (k + 1) (omega arith) (omega arith) in omega arith) prior)
         where
           prior : LeastAbove mark m nx i j (getD t (k - nx) 0)
-          prior = subst (λ (c : ℕ). LeastAbove mark m nx i j (getD t c 0)) (let z : j * nx + i ≡ k - nx = omega (arith, row-next j nx) in z) (d .cell i j c (omega (arith, row-next j nx)))
+          prior = subst (λ (c : ℕ). LeastAbove mark m nx i j (getD t c 0)) (let z : j * nx + i ≡ k - nx = omega (arith, suc-mul j nx) in z) (d .cell i j c (omega (arith, suc-mul j nx)))
 
 -- ---- up
 
@@ -139,7 +139,7 @@ module _ (mark : ℕ) (m : List ℕ) (nx ny i j : ℕ) (high : ny ≤ 4096) wher
 pub up-none : (nx ny : ℕ) (s : List ℕ) → ny ≤ 4096 → Raised nx ny (ny * nx - nx) s s
 up-none nx ny s high mark m d = record {
   cell = λ i j a b c. up-last mark m nx ny i j high _
-      (⊎-elim (λ f. absurd (let z : ⊥ = omega (arith, row-in i (suc j) nx ny a f, row-next j nx) in z)) (λ f. f) (lt-or-le (suc j) ny))
+      (⊎-elim (λ f. absurd (let z : ⊥ = omega (arith, row-in i (suc j) nx ny a f, suc-mul j nx) in z)) (λ f. f) (lt-or-le (suc j) ny))
       b (d .cell i j a (row-in i j nx ny a b));
   front = λ c a. refl;
   rest = λ c a. refl;
@@ -151,12 +151,12 @@ module _ (nx ny k : ℕ) (s t : List ℕ) (u : Raised nx ny (k + 1) s t) (long :
       subst (LeastAbove mark m nx i j) (ap (λ (c : ℕ). getD s c 0) e ∙ sym (u mark m d .front k (omega arith))) (d .cell i j a (omega arith))
 
   below : (i j : ℕ) → j * nx + i ≡ k → suc j < ny
-  below i j e = row-of i (suc j) nx ny (ny * nx) (omega (arith, row-next j nx)) (omega arith)
+  below i j e = row-of i (suc j) nx ny (ny * nx) (omega (arith, suc-mul j nx)) (omega arith)
 
   next : (mark : ℕ) (m : List ℕ) → Down mark m nx (ny * nx) s s → (i j : ℕ) → i < nx → j * nx + i ≡ k → LeastIn mark m nx ny i (suc j) (getD t (k + nx) 0)
   next mark m d i j b e =
-      subst (λ (c : ℕ). LeastIn mark m nx ny i (suc j) (getD t c 0)) (let z : suc j * nx + i ≡ k + nx = omega (arith, row-next j nx) in z)
-      (u mark m d .cell i (suc j) b (below i j e) (omega (arith, row-next j nx)))
+      subst (λ (c : ℕ). LeastIn mark m nx ny i (suc j) (getD t c 0)) (let z : suc j * nx + i ≡ k + nx = omega (arith, suc-mul j nx) in z)
+      (u mark m d .cell i (suc j) b (below i j e) (omega (arith, suc-mul j nx)))
 
   -- cell k is given its value
   pub step-up : Raised nx ny k s (set t k (fromBelow (getD t k 0) (getD t (k + nx) 0)))

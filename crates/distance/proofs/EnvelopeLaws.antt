@@ -6,9 +6,8 @@ use mathlib.Core.List.{List}
 use Prim.Native.Nat.{ℕ, zero, suc, _+_, _-_, _*_, _/_, _≤_, _<_}
 use native.Mathlib.Nat.{mul-left-comm, add-mul, mul-le-mul-right, div-mul-le-self, lt-div-mul-add}
 use native.Mathlib.Omega.{arith}
-use lib.ListN.{getD}
 use Rattle.distance.specs.Least.{far}
-use Rattle.distance.specs.Envelope.{Under, Over, Real, Lowest, Owns, Env, Popped, Keyed, column, keyAt, begins, Stack, Entry, Sound, Top, Rest, Taken}
+use Rattle.distance.specs.Envelope.{Under, Over, Real, Lowest, Owns, Env, Popped, Keyed, column, keyAt, begins, Stack, Sound, Top, Rest, Taken}
 use Rattle.distance.proofs.NumberLaws.{lt-or-le, spread, cross}
 
 -- ---- two parabolas, p before q

@@ -3,7 +3,7 @@ pub mod WroteLaws
 pub mod ColumnLaws
 pub mod EnvelopeLaws
 pub mod RowLaws
-pub mod Nearest
+pub mod NearestLaws
 pub mod RootedLaws
 pub mod LimitLaws
 pub mod Marked

@@ -1,14 +1,14 @@
 -- A length grows with its square, so a test that it passes is a test of the square. Assumes nothing.
-use mathlib.Core.Path.{_≡_, refl, sym, ap, _∙_}
+use mathlib.Core.Path.{_≡_, refl, sym, _∙_}
 use mathlib.Core.Bool.{Bool, true, false, cond, _&&_, true≢false}
-use Prim.Native.Nat.{ℕ, zero, suc, _-_, _≤_, _<_}
+use Prim.Native.Nat.{ℕ, _-_, _≤_}
 use native.Mathlib.Omega.{arith}
 use lib.Dec.{T, eqb, ltb, leb}
 use lib.IntN.{pos}
 use lib.Ieee.{Float, nan, inf, fin, binary64, ofInt, mul, lt, le, isNan}
 use lib.Ieee.Scale.{finite}
 use lib.Ieee.Positive.{positive}
-use borrow.Author.Tests.{ltb-true, ltb-false, ne-eqb, eqb-false, le-leb, lt-leb, lt-ltb, le-ltb}
+use borrow.Author.Tests.{ltb-true, ltb-false, ne-eqb, eqb-false, le-leb, lt-leb}
 use Rattle.loops.proofs.Cases.{by-cases, by-test, never, both}
 use Rattle.floats.proofs.OrderLaws.{le-lt, le-le, le-not-lt, not-le-lt, lt-numbers}
 use Rattle.floats.proofs.SignLaws.{under-top, zero-under, positive-unsigned}

@@ -3,13 +3,14 @@ use mathlib.Core.Path.{_≡_, refl, sym, ap, _∙_, subst}
 use mathlib.Core.Bool.{Bool, true, false}
 use mathlib.Core.Logic.{_⊎_, inl, inr, ⊎-elim}
 use mathlib.Core.List.{List}
-use Prim.Native.Nat.{ℕ, suc, _+_, _-_, _*_, _≤_, _<_}
-use native.Mathlib.Nat.{mul-add, mul-comm, mul-le-mul, mul-le-mul-right}
+use Prim.Native.Nat.{ℕ, _+_, _-_, _*_, _≤_, _<_}
+use native.Mathlib.Nat.{suc-mul, mul-add, mul-comm, mul-le-mul, mul-le-mul-right}
 use native.Mathlib.Omega.{arith}
 use lib.ListN.{length, getD, set}
 use lib.Seq.{getD-set-same, getD-set-other}
 use lib.Dec.{ltb, eqb}
 use borrow.Author.Tests.{ltb-true, ltb-false, eqb-true, eqb-false}
+use Rattle.loops.proofs.CellLaws.{row-below}
 use Rattle.distance.specs.Least.{gap, square}
 
 pub lt-or-le : (a b : ℕ) → (a < b) ⊎ (b ≤ a)
@@ -64,12 +65,9 @@ pub square-le : {a b : ℕ} → a ≤ b → square a ≤ square b
 square-le h = mul-le-mul h h
 
 -- cells of a map by row and column
-pub row-next : (j n : ℕ) → suc j * n ≡ j * n + n
-row-next j n = mul-comm (suc j) n ∙ (let e : suc j ≡ j + 1 = omega arith in ap (λ (k : ℕ). n * k) e) ∙ mul-add n j 1 ∙ omega (arith, mul-comm n j)
-
 pub row-in : (i j nx ny : ℕ) → i < nx → j < ny → j * nx + i < ny * nx
-row-in i j nx ny h k = let u : suc j ≤ ny = omega arith in omega (arith, row-next j nx, mul-le-mul-right nx u)
+row-in i j nx ny h k = let z = row-below j ny nx (ny * nx) k (omega arith) in omega arith
 
 -- a map of one row or more is at least as large as a row
 pub one-row : (nx ny : ℕ) → 0 < ny → nx ≤ ny * nx
-one-row nx ny h = omega (arith, mul-le-mul-right nx h, row-next 0 nx)
+one-row nx ny h = omega (arith, mul-le-mul-right nx h, suc-mul 0 nx)

@@ -2,15 +2,21 @@
 use mathlib.Core.Path.{_≡_, refl, sym, ap, _∙_, subst}
 use mathlib.Core.Logic.{⊎-elim}
 use mathlib.Core.List.{List}
-use Prim.Native.Nat.{ℕ, _+_, _≤_, _<_}
+use Prim.Native.Nat.{ℕ, _+_, _*_, _≤_, _<_}
 use native.Mathlib.Omega.{arith}
 use lib.ListN.{length, getD, set, drop, length-drop}
 use lib.Seq.{getD-set-same, getD-set-other, getD-drop}
 use lib.Ieee.{Float, nan}
-use Rattle.distance.specs.Rooted.{distanceOf, Rooted, distancesOf}
-use Rattle.distance.specs.Least.{listed}
+use Rattle.distance.specs.Rooted.{distanceOf, distancesOf, distanceTransform}
+use Rattle.distance.specs.Least.{Transformed, Sides}
+use Rattle.distance.specs.Nearest.{listed}
 use Rattle.distance.proofs.NumberLaws.{lt-or-le}
-use Rattle.distance.proofs.Nearest.{listed-long, listed-at, two-parts}
+use Rattle.distance.proofs.NearestLaws.{listed-long, listed-at, square-at, two-parts}
+
+-- the first n numbers of t are the distances of the squares of q, and the rest of s is kept
+pub record Rooted (n : ℕ) (q : List ℕ) (s t : List Float) : Type 0 where
+  pub root : (k : ℕ) → k < n → getD t k nan ≡ distanceOf (getD q k 0)
+  pub rest : (k : ℕ) → n ≤ k → getD t k nan ≡ getD s k nan
 
 pub rooted-none : (q : List ℕ) (s : List Float) → Rooted 0 q s s
 rooted-none q s = record { root = λ k a. absurd (let z : ⊥ = omega arith in z); rest = λ k a. refl }
@@ -34,3 +40,8 @@ distances-are n q s t long same r = two-parts nan t (listed n (λ k. distanceOf 
     (simp length-drop (omega (arith, listed-long (λ k. distanceOf (getD q k 0)) nan n)))
     (λ k h. let b : k < n = omega (arith, listed-long (λ k. distanceOf (getD q k 0)) nan n) in r .root k b ∙ sym (listed-at (λ k. distanceOf (getD q k 0)) nan n k b))
     (λ k h. rw (listed-long (λ k. distanceOf (getD q k 0)) nan n) (r .rest (n + k) (omega arith) ∙ sym (getD-drop n s k nan)))
+
+-- a distance, from what `transform` leaves
+pub distance-at : (mark : ℕ) (m : List ℕ) (nx ny : ℕ) (s t : List ℕ) → Sides nx ny → Transformed mark m nx ny s t → (k : ℕ) → k < ny * nx → getD (distanceTransform mark m nx ny) k nan ≡ distanceOf (getD t k 0)
+unfolding distanceTransform
+distance-at mark m nx ny s t z r k h = listed-at _ nan (ny * nx) k h ∙ ap distanceOf (sym (square-at mark m nx ny s t z r k h))

@@ -3,6 +3,7 @@ use mathlib.Core.Path.{_≡_, refl, sym, ap, _∙_, subst}
 use mathlib.Core.Logic.{⊎-elim}
 use mathlib.Core.List.{List}
 use Prim.Native.Nat.{ℕ, suc, _+_, _*_, _≤_, _<_}
+use native.Mathlib.Nat.{suc-mul}
 use native.Mathlib.Omega.{arith}
 use lib.ListN.{getD}
 use borrow.Author.Tests.{lt-ltb, le-ltb}
@@ -10,7 +11,7 @@ use Rattle.distance.specs.Least.{Least, some, none, far, gap, square, Ce
 use Rattle.distance.specs.Wrote.{Wrote}
 use Rattle.distance.specs.Column.{lost, InColumn, Columns, Down, Up}
 use Rattle.distance.specs.Envelope.{keyOf, rowKeys, KeysOf, Real, Lowest, Keyed, heightOf, height, column, keyAt, begins, Stack, Entry, Sound, Rest, Row, Filled, RowOf, RowsOf}
-use Rattle.distance.proofs.NumberLaws.{lt-or-le, product, gap-square, square-le, row-next, row-in}
+use Rattle.distance.proofs.NumberLaws.{lt-or-le, product, gap-square, square-le, row-in}
 
 -- ---- keys
 
@@ -182,7 +183,7 @@ rows-more nx ny s j w t u r row wide high before d = record {
     keys = record { key = λ p a. ap (keyOf p) (r .mid (j * nx + p) (omega arith) (omega (arith, row-in p j nx ny a row))) }
 
     later : (c : ℕ) → (j + 1) * nx ≤ c → j * nx + nx ≤ c
-    later c a = let z : j + 1 ≡ suc j = omega arith in let y : suc j * nx ≤ c = subst (λ (n : ℕ). n * nx ≤ c) z a in omega (arith, row-next j nx)
+    later c a = let z : j + 1 ≡ suc j = omega arith in let y : suc j * nx ≤ c = subst (λ (n : ℕ). n * nx ≤ c) z a in omega (arith, suc-mul j nx)
 
 pub rows-same : {nx ny s n l : ℕ} {w t : List ℕ} → n ≡ l → RowsOf nx ny s n w t → RowsOf nx ny s l w t
 rows-same {nx} {ny} {s} {n} {l} {w} {t} e d = subst (λ (i : ℕ). RowsOf nx ny s i w t) e d

@@ -4,7 +4,8 @@
 ghost use mathlib.Core.Path.{_≡_};
 ghost use Prim.Native.Nat.{_+_, _*_, _≤_};
 ghost use lib.ListN.{length};
-ghost use Rattle.distance.specs.Least.{Transformed, Sides, transformOf};
+ghost use Rattle.distance.specs.Least.{Transformed, Sides};
+ghost use Rattle.distance.specs.Nearest.{transformOf};
 
 mod columns;
 pub mod limits;

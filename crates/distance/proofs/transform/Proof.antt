@@ -3,7 +3,7 @@ use mathlib.Core.Path.{refl, _∙_}
 use native.Mathlib.Omega.{arith}
 use Rattle.distance.proofs.NumberLaws.{one-row}
 use Rattle.distance.proofs.RowLaws.{down-self, transformed}
-use Rattle.distance.proofs.Nearest.{work-is}
+use Rattle.distance.proofs.NearestLaws.{work-is}
 use borrow.Author.Needs.{needs}
 use Rattle.distance.proofs.transform.Statement.{statement}
 use Rattle.distance.proofs.transform.Tie as tie

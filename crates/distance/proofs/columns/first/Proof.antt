@@ -1,10 +1,9 @@
 -- `distance::columns::first` meets its contract. The invariant: the cells before k are done. Assumes nothing.
-use mathlib.Core.Path.{_≡_, refl, sym, ap, _∙_, subst}
+use mathlib.Core.Path.{_≡_, refl, _∙_}
 use mathlib.Core.List.{List}
-use Prim.Native.Nat.{ℕ, _-_, _≤_, _+_, max}
+use Prim.Native.Nat.{ℕ, _-_, _≤_}
 use native.Mathlib.Omega.{arith}
 use lib.ListN.{length, length-set}
-use Rattle.distance.proofs.NumberLaws.{one-row}
 use Rattle.distance.specs.Column.{Down}
 use Rattle.distance.proofs.ColumnLaws.{down-none, down-same, step-first}
 use Rattle.distance.proofs.columns.first.Statement.{statement}

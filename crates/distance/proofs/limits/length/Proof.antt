@@ -1,5 +1,4 @@
 -- `distance::limits::length` meets its contract. Assumes nothing.
-use mathlib.Core.Path.{ap, _∙_}
 use Rattle.distance.specs.Limits.{lengthOf}
 use borrow.Author.Needs.{needs}
 use Rattle.distance.proofs.limits.length.Statement.{statement}

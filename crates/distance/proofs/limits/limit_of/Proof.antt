@@ -1,5 +1,5 @@
 -- `distance::limits::limit_of` meets its contract. The invariant: the squares looked at are those near the guess. Assumes nothing.
-use Prim.Native.Nat.{ℕ, _-_, _+_, _≤_}
+use Prim.Native.Nat.{_-_, _+_, _≤_}
 use native.Mathlib.Omega.{arith}
 use Rattle.distance.proofs.LimitLaws.{told, untold}
 use Rattle.distance.proofs.limits.limit_of.Statement.{statement}

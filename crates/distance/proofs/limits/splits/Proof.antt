@@ -1,5 +1,5 @@
 -- `distance::limits::splits` meets its contract. Assumes nothing.
-use mathlib.Core.Path.{sym, ap, _∙_}
+use mathlib.Core.Path.{sym, _∙_}
 use native.Mathlib.Omega.{arith}
 use Rattle.loops.proofs.Cases.{never}
 use borrow.Author.Needs.{needs}

@@ -5,8 +5,7 @@ use Prim.Native.Nat.{ℕ, _-_, _≤_}
 use native.Mathlib.Omega.{arith}
 use lib.ListN.{length, length-set}
 use lib.Ieee.{Float}
-use Rattle.distance.specs.Rooted.{Rooted}
-use Rattle.distance.proofs.RootedLaws.{rooted-none, rooted-more, rooted-same, distances-are}
+use Rattle.distance.proofs.RootedLaws.{Rooted, rooted-none, rooted-more, rooted-same, distances-are}
 use Rattle.distance.proofs.roots.distances.Statement.{statement}
 use Rattle.distance.proofs.roots.distances.Tie as tie
 

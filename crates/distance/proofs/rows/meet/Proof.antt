@@ -1,5 +1,5 @@
 -- `distance::rows::meet` meets its contract. Assumes nothing.
-use mathlib.Core.Path.{_≡_, refl, sym, ap, _∙_}
+use mathlib.Core.Path.{sym, ap}
 use Prim.Native.Nat.{ℕ, _*_, _/_, _+_}
 use native.Mathlib.Nat.{div-le-self}
 use native.Mathlib.Omega.{arith}

@@ -1,5 +1,5 @@
 -- `distance::rows::pop` meets its contract. The invariant: those from r on are beaten. Assumes nothing.
-use Prim.Native.Nat.{ℕ, _-_, _*_, _≤_, _<_}
+use Prim.Native.Nat.{_-_, _*_, _≤_, _<_}
 use native.Mathlib.Omega.{arith}
 use Rattle.distance.specs.Envelope.{Entry, begins, column}
 use Rattle.distance.proofs.NumberLaws.{product}

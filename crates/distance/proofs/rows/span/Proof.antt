@@ -1,5 +1,5 @@
 -- `distance::rows::span` meets its contract. The invariant: the places before x are written. Assumes nothing.
-use mathlib.Core.Path.{_≡_, refl, sym, ap, _∙_, subst}
+use mathlib.Core.Path.{_≡_, refl, _∙_}
 use mathlib.Core.List.{List}
 use Prim.Native.Nat.{ℕ, _-_, _≤_, _<_, _+_, _*_, max}
 use native.Mathlib.Omega.{arith}

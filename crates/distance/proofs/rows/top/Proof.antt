@@ -1,5 +1,5 @@
 -- `distance::rows::top` meets its contract. Assumes nothing.
-use Prim.Native.Nat.{ℕ, _-_, _≤_, _<_}
+use Prim.Native.Nat.{_-_, _≤_}
 use native.Mathlib.Omega.{arith}
 use Rattle.distance.specs.Envelope.{Entry, keyAt}
 use Rattle.distance.proofs.EnvelopeLaws.{taken-first, taken-top, taken-none, key-le, rest-none, rest-top}

@@ -10,7 +10,8 @@ use lib.ListN.{length, getD, take, drop, replicate, length-append, length-take, 
 use lib.Seq.{ext-getD, getD-append-add, getD-take, getD-drop}
 use lib.Dec.{eqb}
 use borrow.Author.Tests.{eqb-true, eqb-false}
-use Rattle.distance.specs.Least.{Least, some, none, far, Cell, at, gap, apart, Mark, Transformed, Sides, nearestInRow, nearest, listed, squaresOf, transformOf}
+use Rattle.distance.specs.Least.{Least, some, none, far, Cell, at, gap, apart, Mark, Transformed, Sides}
+use Rattle.distance.specs.Nearest.{nearestInRow, nearest, listed, squaresOf, transformOf}
 use Rattle.distance.proofs.NumberLaws.{lt-or-le, product}
 
 -- at most one number is least
@@ -109,21 +110,20 @@ module _ {A : Type 0} (f : ℕ → A) (d : A) where
       ap (λ (i : ℕ). getD (listed n f ++ (f n ∷ [])) i d) e ∙ getD-append-add (listed n f) (f n ∷ []) 0 d ∙ ap f z)
       (lt-or-le k n)
 
+-- a square by its cell number
+pub square-at : (mark : ℕ) (m : List ℕ) (nx ny : ℕ) (s t : List ℕ) → Sides nx ny → Transformed mark m nx ny s t → (k : ℕ) → k < ny * nx → getD t k 0 ≡ nearest mark m nx (at (k % nx) (k / nx)) ny
+square-at mark m nx ny s t z r k h =
+    ap (λ (i : ℕ). getD t i 0) (sym (div-add-mod' k nx))
+    ∙ transformed-is mark m nx ny s t z r (k % nx) (k / nx) (mod-lt k (z .column)) (div-lt-iff-lt-mul (z .column) .1 h)
+
 -- the squares as a list
 pub squares-are : (mark : ℕ) (m : List ℕ) (nx ny : ℕ) (s t : List ℕ) → Sides nx ny → ny * nx ≤ length t → Transformed mark m nx ny s t → take (ny * nx) t ≡ squaresOf mark m nx ny
 unfolding squaresOf
-squares-are mark m nx ny s t z long r = ext-getD 0 _ _ lengths (λ k h. let b : k < ny * nx = omega (arith, whole) in rw getD-take (each k b ∙ sym (listed-at _ 0 (ny * nx) k b)))
+squares-are mark m nx ny s t z long r = ext-getD 0 _ _ (whole ∙ sym (listed-long _ 0 (ny * nx)))
+    (λ k h. let b : k < ny * nx = omega (arith, whole) in rw getD-take (square-at mark m nx ny s t z r k b ∙ sym (listed-at _ 0 (ny * nx) k b)))
   where
     whole : length (take (ny * nx) t) ≡ ny * nx
     whole = simp length-take (omega arith)
-
-    lengths : length (take (ny * nx) t) ≡ length (listed (ny * nx) (λ k. nearest mark m nx (at (k % nx) (k / nx)) ny))
-    lengths = whole ∙ sym (listed-long _ 0 (ny * nx))
-
-    each : (k : ℕ) → k < ny * nx → getD t k 0 ≡ nearest mark m nx (at (k % nx) (k / nx)) ny
-    each k h =
-        ap (λ (i : ℕ). getD t i 0) (sym (div-add-mod' k nx))
-        ∙ transformed-is mark m nx ny s t z r (k % nx) (k / nx) (mod-lt k (z .column)) (div-lt-iff-lt-mul (z .column) .1 h)
 
 -- a list by its two parts
 pub two-parts : {A : Type 0} (d : A) (t xs ys : List A) → length t ≡ length xs + length ys → ((k : ℕ) → k < length xs → getD t k d ≡ getD xs k d) → ((k : ℕ) → k < length ys → getD t (length xs + k) d ≡ getD ys k d) → t ≡ xs ++ ys
