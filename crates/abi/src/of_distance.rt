@@ -29,7 +29,7 @@ pub extern "C" fn distance_distances(squares: &[u32], n: usize, out: &mut [f64])
     distance::roots::distances(squares, n, out);
 }
 
-// The first square that fails a bound, u32::MAX where none is told.
+// The first square that fails a bound, FAR where none is told.
 #[no_mangle]
 pub extern "C" fn distance_limit(scaled: bool, scale: f64, strict: bool, x: f64) -> u32
     ensures { λ r. ⌜ (r < far → (d : ℕ) → d ≤ far → passesOf scaled scale strict x d ≡ ltb d r) ⌝ }
@@ -44,7 +44,7 @@ pub extern "C" fn distance_limit(scaled: bool, scale: f64, strict: bool, x: f64)
     if l.told {
         return l.below;
     }
-    4294967295
+    distance::FAR
 }
 
 #[no_mangle]

@@ -6,7 +6,7 @@ ghost use Rattle.distance.specs.Least.{Sides};
 ghost use Rattle.distance.specs.Column.{Down, Raised, fromAbove, fromBelow};
 
 // Rows that no column has: it has no mark.
-const NONE: u32 = 4096;
+pub const NONE: u32 = 4096;
 
 // The rows up to a mark at or above a cell, from those of the cell above it.
 fn from_above(byte: u8, mark: u8, above: u32) -> u32

@@ -13,8 +13,11 @@ pub mod roots;
 mod rows;
 mod write;
 
-// The least squared distance of each cell to a cell whose byte is `mark`, u32::MAX where there is
-// none: `work` begins with the map's squares. The 3 nx places after them are scratch, 0 in the end.
+// Stands for infinity, where the map has no mark.
+pub const FAR: u32 = 4294967295;
+
+// The least squared distance of each cell to a cell whose byte is `mark`, FAR where there is none:
+// `work` begins with the map's squares. The 3 nx places after them are scratch, 0 in the end.
 pub fn transform(marks: &[u8], mark: u8, nx: usize, ny: usize, work: &mut [u32])
     requires { ⌜ Sides nx ny ⌝ }
     requires { ⌜ ny * nx ≤ length (now marks) ⌝ }

@@ -3,11 +3,12 @@ ghost use mathlib.Core.Path.{_≡_};
 ghost use Prim.Native.Nat.{_≤_};
 ghost use lib.ListN.{length};
 ghost use Rattle.distance.specs.Rooted.{distanceOf, distancesOf};
+use super::FAR;
 
 pub fn distance_of(square: u32) -> f64
     ensures { λ r. ⌜ r ≡ distanceOf square ⌝ }
 {
-    if square == 4294967295 {
+    if square == FAR {
         return f64::from_bits(0x7ff0_0000_0000_0000);
     }
     numbers::root::sqrt(std::num::nearest_u64_to_f64(square as u64))

@@ -7,11 +7,9 @@ ghost use lib.ListN.{length, getD};
 ghost use Rattle.distance.specs.Least.{Sides};
 ghost use Rattle.distance.specs.Wrote.{Wrote};
 ghost use Rattle.distance.specs.Envelope.{Sound, Popped, Top, Rest, Taken, Stack, keyOf, heightOf, rowKeys, Filled, RowOf, RowsOf};
+use super::FAR;
+use super::columns::NONE;
 use super::write::put;
-
-const FAR: u32 = 4294967295;
-
-const NONE: u32 = 4096;
 
 // How many stacked parabolas are left once those are dropped that q beats where they begin.
 fn pop(work: &[u32], s: usize, nx: usize, q: u32, key: u32, n: usize) -> usize
