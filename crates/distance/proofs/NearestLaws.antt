@@ -12,7 +12,7 @@ use lib.Dec.{eqb}
 use borrow.Author.Tests.{eqb-true, eqb-false}
 use Rattle.distance.specs.Least.{Least, some, none, far, Cell, at, gap, apart, Mark, Transformed, Sides}
 use Rattle.distance.specs.Nearest.{nearestInRow, nearest, listed, squaresOf, transformOf}
-use Rattle.distance.proofs.NumberLaws.{lt-or-le, product}
+use Rattle.distance.proofs.NumberLaws.{lt-or-le, product, one-row}
 
 -- at most one number is least
 pub least-one : {A : Type 0} {top : ℕ} {P : A → Type 0} {f : A → ℕ} {d e : ℕ} → Least top P f d → Least top P f e → d ≡ e
@@ -162,3 +162,14 @@ work-is mark m nx ny s t z long same r = two-parts 0 t (squaresOf mark m nx ny) 
         (λ a. r .scratch k a ∙ sym (List·getD-append (zeros (3 * nx)) _ 0 k (simp length-replicate a) ∙ getD-replicate (3 * nx) k 0 0 a))
         (beyond k)
         (lt-or-le k (3 * nx))
+
+-- ---- for callers
+
+-- the room that `transform` wants, in a region of four maps
+pub room : (nx ny n : ℕ) → Sides nx ny → 4 * (ny * nx) ≤ n → ny * nx + 3 * nx ≤ n
+room nx ny n z h = omega (arith, one-row nx ny (z .row))
+
+-- a square that `transform` leaves
+pub transform-at : (mark : ℕ) (m : List ℕ) (nx ny : ℕ) (s : List ℕ) (k : ℕ) → k < ny * nx → getD (transformOf mark m nx ny s) k 0 ≡ nearest mark m nx (at (k % nx) (k / nx)) ny
+unfolding transformOf squaresOf
+transform-at mark m nx ny s k h = List·getD-append (squaresOf mark m nx ny) _ 0 k (omega (arith, listed-long (λ k. nearest mark m nx (at (k % nx) (k / nx)) ny) 0 (ny * nx))) ∙ listed-at _ 0 (ny * nx) k h
