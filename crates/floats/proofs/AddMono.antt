@@ -13,7 +13,7 @@ use lib.Ieee.Fits.{down-pos}
 use borrow.Author.Tests.{ltb-true, ltb-false}
 use Rattle.loops.proofs.Cases.{by-test, never}
 use Rattle.floats.proofs.OrderLaws.{Le, le-of, le-refl}
-use Rattle.floats.proofs.SignLaws.{under-top, over-bottom, neg-le}
+use Rattle.floats.proofs.SignLaws.{no-nan, under-top, over-bottom, neg-le}
 use Rattle.floats.proofs.SwapLaws.{add-swap}
 use Rattle.floats.proofs.RoundMono.{Rounds, rounds-le}
 
@@ -105,10 +105,6 @@ unfolding add
 add-none f nan = refl
 add-none f (inf s) = refl
 add-none f (fin s m e) = refl
-
-no-nan : {A : Type 0} → isNan nan ≡ false → A
-unfolding isNan
-no-nan h = never (sym h)
 
 -- ---- all floats
 

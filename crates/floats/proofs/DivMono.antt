@@ -10,9 +10,9 @@ use lib.Ieee.{Float, nan, inf, fin, Format, up, down, unlike, round, div, lt, eq
 use lib.Ieee.Fits.{up-pos, down-pos}
 use Rattle.loops.proofs.Cases.{never}
 use Rattle.floats.proofs.OrderLaws.{Le}
-use Rattle.floats.proofs.SignLaws.{unsigned, under-top, over-bottom}
+use Rattle.floats.proofs.SignLaws.{unsigned, no-nan, under-top, over-bottom}
 use Rattle.floats.proofs.RoundMono.{round-le}
-use Rattle.floats.proofs.MulMono.{wider, fin-le, no-nan, clear, poles, zeros}
+use Rattle.floats.proofs.MulMono.{wider, fin-le, clear, poles, zeros}
 
 over-inf : (f : Format) (s : Bool) (z : Float) → T (unsigned z) → isNan (div f (inf s) z) ≡ false → div f (inf s) z ≡ inf s
 unfolding div

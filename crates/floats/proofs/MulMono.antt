@@ -12,7 +12,7 @@ use lib.Ieee.{Float, nan, inf, fin, Format, up, down, unlike, round, mul, neg, l
 use lib.Ieee.Fits.{up-pos, down-pos}
 use Rattle.loops.proofs.Cases.{never}
 use Rattle.floats.proofs.OrderLaws.{Le, le-of, zero-of}
-use Rattle.floats.proofs.SignLaws.{unsigned, under-top, over-bottom, neg-neg, neg-number, neg-le, round-neg}
+use Rattle.floats.proofs.SignLaws.{unsigned, no-nan, under-top, over-bottom, neg-neg, neg-number, neg-le, round-neg}
 use Rattle.floats.proofs.SwapLaws.{mul-swap}
 use Rattle.floats.proofs.RoundMono.{round-zero, round-le}
 
@@ -45,10 +45,6 @@ mul-finite f s m e s' m' e' n d h =
     (wider (m * up e) (down e) (m' * up e') (down e') (n * up d) (down d) s s' (fin-le s m e s' m' e' h)))
 
 -- ---- infinities
-
-pub no-nan : {A : Type 0} → isNan nan ≡ false → A
-unfolding isNan
-no-nan h = never (sym h)
 
 pub clear : (s : Bool) → unlike s false ≡ s
 clear true = refl

@@ -18,6 +18,10 @@ unsigned nan = false
 unsigned (inf s) = not s
 unsigned (fin s m e) = not s
 
+pub no-nan : {A : Type 0} → isNan nan ≡ false → A
+unfolding isNan
+no-nan h = never (sym h)
+
 pub number : (x : Float) → T (unsigned x) → isNan x ≡ false
 unfolding isNan
 number nan a = absurd a

@@ -1,22 +1,7 @@
 //! The proved distance map against the published one: bits of every distance, and every lent slice.
-use compare as _; // it links the proved functions
+use compare::distance;
 use oracle::generate::Rng;
 use oracle::raster::distance_transform;
-
-mod proved {
-    unsafe extern "C" {
-        pub fn distance_transform(
-            marks: *const u8,
-            marks_len: usize,
-            mark: u8,
-            nx: usize,
-            ny: usize,
-            work: *mut u32,
-            work_len: usize,
-        );
-        pub fn distance_distances(squares: *const u32, squares_len: usize, n: usize, out: *mut f64, out_len: usize);
-    }
-}
 
 const BEYOND: usize = 3;
 
@@ -24,13 +9,10 @@ const BEYOND: usize = 3;
 /// scratch is zero.
 fn proved(marks: &[u8], mark: u8, nx: usize, ny: usize) -> Vec<f64> {
     let n = nx * ny;
-    assert!((1..=4096).contains(&nx) && (1..=4096).contains(&ny) && marks.len() >= n);
     let mut work = vec![7u32; n + 3 * nx + BEYOND];
     let mut out = vec![9.0f64; n + BEYOND];
-    unsafe {
-        proved::distance_transform(marks.as_ptr(), marks.len(), mark, nx, ny, work.as_mut_ptr(), work.len());
-        proved::distance_distances(work.as_ptr(), work.len(), n, out.as_mut_ptr(), out.len());
-    }
+    distance::transform(marks, mark, nx, ny, &mut work);
+    distance::distances(&work, n, &mut out);
     assert!(work[n..n + 3 * nx].iter().all(|&x| x == 0));
     assert!(work[n + 3 * nx..].iter().all(|&x| x == 7));
     assert!(out[n..].iter().all(|&x| x == 9.0));
@@ -67,7 +49,7 @@ fn random_maps_of_all_shapes() {
             1 => 0.5,
             2 => 0.999,
             3 => 20.0 / n as f64,
-            _ => r.f() * r.f(),
+            _ => r.unit() * r.unit(),
         };
         let marks: Vec<bool> = (0..n).map(|_| r.chance(p)).collect();
         check(&marks, nx, ny);

@@ -1,39 +1,10 @@
 //! Times the proved distance map beside the published one, in one run: `cargo run --release --bin
 //! bench_distance`. The squares have to take at most half of the published time on every map.
-use compare as _; // it links the proved functions
+use compare::distance::{distances, transform};
 use oracle::generate::Rng;
 use oracle::raster::distance_transform;
 use std::hint::black_box;
 use std::time::Instant;
-
-mod proved {
-    unsafe extern "C" {
-        pub fn distance_transform(
-            marks: *const u8,
-            marks_len: usize,
-            mark: u8,
-            nx: usize,
-            ny: usize,
-            work: *mut u32,
-            work_len: usize,
-        );
-        pub fn distance_distances(squares: *const u32, squares_len: usize, n: usize, out: *mut f64, out_len: usize);
-    }
-}
-
-fn squares(marks: &[u8], nx: usize, ny: usize, work: &mut [u32]) {
-    assert!(marks.len() >= nx * ny && work.len() >= nx * ny + 3 * nx);
-    unsafe {
-        proved::distance_transform(marks.as_ptr(), marks.len(), 1, nx, ny, work.as_mut_ptr(), work.len());
-    }
-}
-
-fn distances(work: &[u32], n: usize, out: &mut [f64]) {
-    assert!(work.len() >= n && out.len() >= n);
-    unsafe {
-        proved::distance_distances(work.as_ptr(), work.len(), n, out.as_mut_ptr(), out.len());
-    }
-}
 
 /// The least of several times, in ms, of each of three jobs in turn.
 fn times(rounds: usize, mut jobs: [&mut dyn FnMut(); 3]) -> [f64; 3] {
@@ -89,11 +60,11 @@ fn main() {
                         black_box(distance_transform(black_box(&marks), nx, ny));
                     },
                     &mut || {
-                        squares(black_box(&bytes), nx, ny, &mut work);
+                        transform(black_box(&bytes), 1, nx, ny, &mut work);
                         black_box(&work);
                     },
                     &mut || {
-                        squares(black_box(&bytes), nx, ny, &mut whole);
+                        transform(black_box(&bytes), 1, nx, ny, &mut whole);
                         distances(&whole, n, &mut out);
                         black_box(&out);
                     },

@@ -1,0 +1,3 @@
+-- What the contracts of `geom` cite.
+pub mod Vec
+pub mod Region

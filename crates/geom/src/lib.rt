@@ -1,0 +1,4 @@
+// Planar geometry (geom.rs of the Rust): vectors, and loops and regions over lent vertices.
+pub mod crossings;
+pub mod region;
+pub mod vec2;
