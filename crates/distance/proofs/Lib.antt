@@ -1,0 +1,9 @@
+pub mod NumberLaws
+pub mod WroteLaws
+pub mod ColumnLaws
+pub mod EnvelopeLaws
+pub mod RowLaws
+pub mod NearestLaws
+pub mod RootedLaws
+pub mod LimitLaws
+pub mod Marked
