@@ -1,10 +1,11 @@
 //! The proved library beside the published Rust.
 //!
 //! `numbers` lists the functions to compare, `ffi` declares them, `inputs` has the numbers they are
-//! compared on; `distance` has the functions that are lent maps. The tests compare bits and the
+//! compared on; `distance` and `geom` have the functions that are lent slices. The tests compare bits and the
 //! programs `bench` and `bench_distance` time.
 pub mod bits;
 pub mod distance;
 pub mod ffi;
+pub mod geom;
 pub mod inputs;
 pub mod numbers;
