@@ -1,28 +1,22 @@
 -- What each return of a function on rows shows, over plain values: every callee's result is a variable, with what the callee ensures as an equation.
--- And the columns of a row lie in the row. Assumes nothing.
-use mathlib.Core.Path.{_≡_, refl, ap, _∙_}
-use mathlib.Core.Bool.{Bool, true, false, cond, _&&_, _||_}
-use Prim.Native.Nat.{ℕ, _+_, _-_, _*_, _^_, _≤_, _<_, min}
-use native.Mathlib.Omega.{arith}
-use borrow.Author.Tests.{le-leb, lt-leb, ltb-true, leb-true}
-use lib.Dec.{ltb, leb, lit≤}
-use lib.Ieee.{Float, nan, inf, fin, binary64, ofBits, prec, add, sub, mul, lt, le, isNan, toUnsigned}
+-- A proof hands over the results' `ensures` and the tests. Assumes nothing.
+use mathlib.Core.Path.{_≡_}
+use mathlib.Core.Bool.{true, false}
+use Prim.Native.Nat.{ℕ, _-_, _≤_, _<_, min}
+use borrow.Author.Tests.{le-leb, lt-leb}
+use lib.Ieee.{Float, binary64, add, sub, mul, lt, le, toUnsigned}
 use Rattle.numbers.specs.Order.{maxOf}
 use Rattle.numbers.specs.Whole.{floorOf, ceilOf}
 use Rattle.numbers.specs.Root.{rootOf}
 use Rattle.geom.specs.Vec.{f0}
 use Rattle.geom.specs.declared.vec2.Vec2.{Vec2}
-use Rattle.loops.proofs.Cases.{by-cases, by-test, both}
-use Rattle.floats.proofs.IndexLaws.{index-not-le}
-use Rattle.raster.specs.Grid.{float, Sides}
+use Rattle.raster.specs.Grid.{float}
 use Rattle.raster.specs.Disk.{rowY, cellAt, firstFrom, colsOf, diskRow, lastRow, rowsOf, leftOf, rightOf, less, two, crescentRow}
 use Rattle.raster.specs.declared.grid.Grid.{Grid}
 use Rattle.raster.specs.declared.disk.Rows.{Rows}
 use Rattle.raster.specs.declared.disk.Crescent.{Crescent}
 use Rattle.raster.specs.declared.disk.Span.{Span}
 use Rattle.raster.specs.declared.disk.Span.the-variants.{Empty, Cols}
-
--- ---- by the code's returns
 
 pub first-is : (x u r : Float) → u ≡ ceilOf x → r ≡ maxOf u f0 → r ≡ firstFrom x
 unfolding firstFrom

@@ -1,3 +1,7 @@
 -- The laws of `raster`, on the definitions alone.
 pub mod GridLaws
 pub mod DiskLaws
+pub mod RowLaws
+pub mod SweepLaws
+pub mod StockLaws
+pub mod LogLaws

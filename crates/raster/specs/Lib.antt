@@ -1,3 +1,6 @@
--- What the contracts of `raster` cite: a raster's cells, the rows of a disk and of a crescent.
+-- What the contracts of `raster` cite: a raster's cells, the rows of a disk and of a crescent, the turns over their cells, the stock map, its log.
 pub mod Grid
 pub mod Disk
+pub mod Sweep
+pub mod Stock
+pub mod Log

@@ -2,3 +2,5 @@
 // cell, 1 where the cell is stock.
 pub mod disk;
 pub mod grid;
+pub mod log;
+pub mod stock;
