@@ -5,3 +5,4 @@ pub mod RowLaws
 pub mod SweepLaws
 pub mod StockLaws
 pub mod LogLaws
+pub mod ContactLaws
