@@ -6,3 +6,6 @@ pub mod SweepLaws
 pub mod StockLaws
 pub mod LogLaws
 pub mod ContactLaws
+pub mod RunLaws
+pub mod ClearLaws
+pub mod Marked
