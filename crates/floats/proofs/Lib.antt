@@ -12,3 +12,4 @@ pub mod NumberLaws
 pub mod MulMono
 pub mod DivMono
 pub mod ThresholdLaws
+pub mod SquareLaws

@@ -1,2 +1,4 @@
 -- What the contracts of `geom` cite.
 pub mod Vec
+pub mod Region
+pub mod Segment

@@ -1,2 +1,5 @@
 // Planar geometry (geom.rs of the Rust): vectors, and loops and regions over lent vertices.
+pub mod crossings;
+pub mod region;
+pub mod segment;
 pub mod vec2;

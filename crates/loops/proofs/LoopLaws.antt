@@ -1,8 +1,9 @@
 -- The laws of `loop`, which stand for the induction that each proof of a loop would do. Assumes nothing.
-use mathlib.Core.Path.{_≡_, sym, ap, _∙_}
+use mathlib.Core.Path.{_≡_, refl, sym, ap, _∙_}
+use mathlib.Core.Bool.{Bool, true, false, _||_}
 use Prim.Native.Nat.{ℕ, zero, suc, _+_, _-_, _≤_, _<_, max}
 use native.Mathlib.Omega.{arith}
-use Rattle.loops.specs.Loop.{turns, loop, Run, on, out, turn}
+use Rattle.loops.specs.Loop.{turns, loop, Run, on, out, turn, orAt, any}
 
 module _ {S : Type 0} (f : ℕ → S → S) (a : ℕ) where
   -- no turn yet
@@ -33,6 +34,23 @@ module _ {S : Type 0} (f : ℕ → S → S) (a : ℕ) where
   pub loop-keeps : (P : S → Type 0) (e : ℕ) → ((i : ℕ) (s : S) → a ≤ i → i < e → P s → P (f i s)) → (s : S) → P s → P (loop f a e s)
   unfolding loop
   loop-keeps P e h s p = turns-keep P (e - a) (λ i s b c q. h i s b (omega arith) q) s p
+
+module _ {S : Type 0} (f : ℕ → S → S) where
+  turns-split : (a n m : ℕ) (s : S) → turns f a (n + m) s ≡ turns f (a + n) m (turns f a n s)
+  unfolding turns
+  turns-split a n zero s = ap (λ (k : ℕ). turns f a k s) (let e : n + zero ≡ n = omega arith in e)
+  turns-split a n (suc m) s =
+      ap (λ (k : ℕ). turns f a k s) (let e : n + suc m ≡ suc (n + m) = omega arith in e)
+      ∙ ap (λ (k : ℕ). f k (turns f a (n + m) s)) (let e : a + (n + m) ≡ a + n + m = omega arith in e)
+      ∙ ap (f (a + n + m)) (turns-split a n m s)
+
+  -- a loop in two parts
+  pub loop-split : (a k e : ℕ) (s : S) → a ≤ k → k ≤ e → loop f a e s ≡ loop f k e (loop f a k s)
+  unfolding loop
+  loop-split a k e s h l =
+      ap (λ (n : ℕ). turns f a n s) (let z : e - a ≡ (k - a) + (e - k) = omega arith in z)
+      ∙ turns-split a (k - a) (e - k) s
+      ∙ ap (λ (b : ℕ). turns f b (e - k) (turns f a (k - a) s)) (let z : a + (k - a) ≡ k = omega arith in z)
 
 -- The invariant of a counting loop `for k in a..e`: the state `t` at the counter k is what k - a turns leave of `s`.
 pub record Going {S : Type 0} (f : ℕ → S → S) (a e : ℕ) (s t : S) (k : ℕ) : Type 0 where
@@ -81,3 +99,22 @@ module _ {S A : Type 0} (f : ℕ → S → Run S A) (a : ℕ) where
   pub going-on : (e : ℕ) (s : Run S A) (t t′ : S) (k : ℕ) → Going (turn f) a e s (on t) k → k < e → on t′ ≡ f k t → Going (turn f) a e s (on t′) (k + 1)
   unfolding turn
   going-on e s t t′ k g h d = going-more (turn f) a e s (on t) (on t′) k g h d
+
+-- ---- a loop that looks for a number: none before k is one
+
+module _ (f : ℕ → Bool) (a e : ℕ) where
+  pub any-on : (k : ℕ) → Going (orAt f) a e false false k → k < e → f k ≡ false → Going (orAt f) a e false false (k + 1)
+  any-on k g h d = going-more (orAt f) a e false false false k g h (sym d)
+
+  pub any-none : (k : ℕ) → Going (orAt f) a e false false k → e ≤ k → false ≡ any f a e
+  unfolding any
+  any-none k g h = going-end (orAt f) a e false false k g h
+
+  pub any-out : (k : ℕ) → Going (orAt f) a e false false k → k < e → f k ≡ true → true ≡ any f a e
+  unfolding any
+  any-out k g h d =
+      let l = g .low in
+      let here : loop (orAt f) a (k + 1) false ≡ true = sym (loop-more (orAt f) a k false l) ∙ ap (orAt f k) (sym (g .is)) ∙ d in
+      sym (loop-split (orAt f) a (k + 1) e false (omega arith) (omega arith)
+      ∙ ap (loop (orAt f) (k + 1) e) here
+      ∙ loop-keeps (orAt f) (k + 1) (λ (b : Bool). b ≡ true) e (λ i s b c p. ap (λ (q : Bool). q || f i) p) true refl)

@@ -7,3 +7,4 @@ pub mod RootLaws
 pub mod HalfLaws
 pub mod RootMono
 pub mod GuardLaws
+pub mod BoundLaws

@@ -1,0 +1,3 @@
+pub mod RegionLaws
+pub mod CrossingLaws
+pub mod SegmentLaws

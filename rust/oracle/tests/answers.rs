@@ -1,0 +1,58 @@
+//! The answers to the stored jobs have not changed: `rust/jobs/answers.txt` holds their fingerprints.
+mod common;
+use common::{jobs_folder, quick, stored};
+use oracle::job;
+use oracle::run::{fingerprint_line, print, run};
+use std::collections::BTreeSet;
+
+#[test]
+fn stored_answers() {
+    let path = jobs_folder().join("answers.txt");
+    let text = std::fs::read_to_string(&path).unwrap_or_else(|e| panic!("{}: {e}", path.display()));
+    let mut compared = 0;
+    for line in text.lines() {
+        let (name, answer) = line.split_once(' ').unwrap_or_else(|| panic!("{line}"));
+        let job = stored(name);
+        if quick(&job) {
+            assert_eq!(fingerprint_line(&print(&run(&job, false), false)), answer, "{name}");
+            compared += 1;
+        }
+    }
+    assert!(compared > 100, "{compared}");
+}
+
+#[test]
+fn every_stored_job_has_an_answer() {
+    let names = |path: std::path::PathBuf| {
+        let extension = path.extension().is_some_and(|e| e == "job");
+        extension.then(|| path.file_stem().unwrap().to_string_lossy().into_owned())
+    };
+    let entries = std::fs::read_dir(jobs_folder()).unwrap();
+    let jobs: BTreeSet<String> = entries.filter_map(|e| names(e.unwrap().path())).collect();
+    let text = std::fs::read_to_string(jobs_folder().join("answers.txt")).unwrap();
+    let answered: BTreeSet<String> =
+        text.lines().filter_map(|l| Some(l.split_once(' ')?.0.to_string())).collect();
+    assert_eq!(jobs, answered);
+}
+
+/// Written and read again, a job is the same.
+#[test]
+fn the_format_keeps_a_job() {
+    for seed in 0..520 {
+        let (job, kind) = oracle::generate::job(seed, None).unwrap();
+        let text = job::write(&job);
+        assert_eq!(job::write(&job::parse(&text).unwrap()), text, "seed {seed} {kind}");
+    }
+    for bad in [
+        "diameter",
+        "diameter x",
+        "width 3",
+        "verts 2\n1 2",
+        "verts 1\n1",
+        "pocket 3 x",
+        "region 3",
+        "lent_rows -1",
+    ] {
+        assert!(job::parse(bad).is_err(), "{bad:?}");
+    }
+}
