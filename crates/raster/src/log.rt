@@ -91,8 +91,8 @@ pub fn clear_again(map: &mut [u8], log: &[u32], count: usize)
     requires { ⌜ Logged (now log) count (length (now map)) ⌝ }
     ensures { λ _. ⌜ now (map .exit) ≡ redone (now (log .entry)) 0 count (now (map .entry)) ⌝ }
 {
-    for i in 0..count {
-        let k = index_of(CellNo(log[i]));
+    for entry in 0..count {
+        let k = index_of(CellNo(log[entry]));
         map[k] = 0;
     }
 }

@@ -17,13 +17,13 @@ use geom::vec2::Vec2;
 pub fn count(map: &[u8]) -> usize
     ensures { λ n. ⌜ n ≡ ones (now (map .entry)) ⌝ }
 {
-    let mut n = 0;
+    let mut standing = 0;
     for k in 0..map.len() {
         if map[k] == 1 {
-            n += 1;
+            standing += 1;
         }
     }
-    n
+    standing
 }
 
 // Keeps only cells that are stock in both maps.

@@ -11,16 +11,16 @@ use Rattle.raster.proofs.log.clear_again.Statement.{statement}
 use Rattle.raster.proofs.log.clear_again.Tie as tie
 
 abbrev Inv-loop : tie.InvT-loop
-Inv-loop map₀ log count i₀ map i = Going (takeOut log) 0 count map₀ map i
+Inv-loop map₀ log count entry₀ map entry = Going (takeOut log) 0 count map₀ map entry
 
 abbrev μ-loop : tie.MeasureT-loop
-μ-loop map₀ log count i₀ map i = count - i
+μ-loop map₀ log count entry₀ map entry = count - entry
 
 loop-holds : tie.Need-loop-holds Inv-loop μ-loop
 loop-holds c = going-none _ _ _ _
 
 long : (c : tie.At-loop Inv-loop μ-loop) → length (c .loop .map) ≡ length (c .before .before .before .args .map .now)
-long c = ap length (c .loop .inv .is) ∙ redone-long (c .before .before .before .args .log .now) 0 (c .loop .i) (c .before .before .before .args .map .now)
+long c = ap length (c .loop .inv .is) ∙ redone-long (c .before .before .before .args .log .now) 0 (c .loop .entry) (c .before .before .before .args .map .now)
 
 mul-t7 : tie.Need-mul-t7 Inv-loop μ-loop
 mul-t7 c = omega (arith, c .before .before .before .before .pre .within)
@@ -32,10 +32,10 @@ index-of-requires : tie.Need-index-of-requires Inv-loop μ-loop
 index-of-requires c κs = search needs
 
 slice-write-map : tie.Need-slice-write-map Inv-loop μ-loop
-slice-write-map c = omega (arith, long (c .before .before .before), c .index-of .ensures, c .before .before .before .before .before .before .pre .cell (c .before .before .before .loop .i) (c .before .before .loop-test .taken))
+slice-write-map c = omega (arith, long (c .before .before .before), c .index-of .ensures, c .before .before .before .before .before .before .pre .cell (c .before .before .before .loop .entry) (c .before .before .loop-test .taken))
 
-add-i : tie.Need-add-i Inv-loop μ-loop
-add-i c = omega arith
+add-entry : tie.Need-add-entry Inv-loop μ-loop
+add-entry c = omega arith
 
 loop-less : tie.Need-loop-less Inv-loop μ-loop
 loop-less c = omega arith
@@ -62,7 +62,7 @@ clear-again-spec =
     shared-slice-read-t9
     index-of-requires
     slice-write-map
-    add-i
+    add-entry
     loop-less
     loop-again
     same-length

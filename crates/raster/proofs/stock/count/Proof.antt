@@ -11,10 +11,10 @@ use Rattle.raster.proofs.stock.count.Statement.{statement}
 use Rattle.raster.proofs.stock.count.Tie as tie
 
 abbrev Inv-loop : tie.InvT-loop
-Inv-loop map n₀ k₀ k-end n k = (k ≤ length map) × (n ≡ ones (take k map))
+Inv-loop map standing₀ k₀ k-end standing k = (k ≤ length map) × (standing ≡ ones (take k map))
 
 abbrev μ-loop : tie.MeasureT-loop
-μ-loop map n₀ k₀ k-end n k = length map - k
+μ-loop map standing₀ k₀ k-end standing k = length map - k
 
 loop-holds : tie.Need-loop-holds Inv-loop μ-loop
 unfolding ones
@@ -23,8 +23,8 @@ loop-holds c = (omega arith, refl)
 shared-slice-read-if1 : tie.Need-shared-slice-read-if1 Inv-loop μ-loop
 shared-slice-read-if1 c = omega arith
 
-add-n : tie.Need-add-n Inv-loop μ-loop
-add-n c = omega (arith, count-most (c .before .before .before .before .args .map .now) (c .before .before .before .loop .k) (c .before .before .before .loop .n) (c .before .before .before .loop .inv .1))
+add-standing : tie.Need-add-standing Inv-loop μ-loop
+add-standing c = omega (arith, count-most (c .before .before .before .before .args .map .now) (c .before .before .before .loop .k) (c .before .before .before .loop .standing) (c .before .before .before .loop .inv .1))
 
 add-k : tie.Need-add-k Inv-loop μ-loop
 add-k c = omega arith
@@ -54,7 +54,7 @@ count-spec =
     μ-loop
     loop-holds
     shared-slice-read-if1
-    add-n
+    add-standing
     add-k
     loop-less
     loop-again
