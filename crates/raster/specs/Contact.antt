@@ -1,0 +1,54 @@
+-- Contact: the angle of a tool's rim that lies over stock, by samples of the rim. Definitions only.
+use Prim.Native.Nat.{ℕ, _+_, _*_, _≤_, _<_, max}
+use mathlib.Core.Path.{_≡_}
+use mathlib.Core.Bool.{cond}
+use mathlib.Core.List.{List}
+use lib.ListN.{length, getD, set}
+use lib.Ieee.{Float, nan, binary64, ofBits, add, mul, div}
+use Rattle.loops.specs.Loop.{loop}
+use Rattle.geom.specs.Vec.{v2, sum, scaled, fromAngle}
+use Rattle.geom.specs.declared.vec2.Vec2.{Vec2}
+use Rattle.raster.specs.Grid.{half, float, stockAt}
+use Rattle.raster.specs.declared.grid.Grid.{Grid}
+
+abbrev pub tau : Float
+tau = ofBits binary64 0x4019_21fb_5444_2d18
+
+-- at least 8 samples
+unfoldable pub samplesOf : ℕ → ℕ
+samplesOf n = max n 8
+
+-- the direction of sample k of n
+unfoldable pub directionAt : ℕ → ℕ → Vec2
+directionAt n k = fromAngle (div binary64 (mul binary64 tau (add binary64 (float k) half)) (float n))
+
+-- a point of the rim of radius r at c
+unfoldable pub rimAt : Vec2 → Float → Vec2 → Vec2
+rimAt c r u = sum c (scaled u r)
+
+-- sample k is a hit where it is over stock
+unfoldable pub hitAt : Grid → List ℕ → Vec2 → Float → ℕ → ℕ → ℕ → ℕ
+hitAt g m c r n k h = cond (stockAt g m (rimAt c r (directionAt n k))) (h + 1) h
+
+unfoldable pub hitsOf : Grid → List ℕ → Vec2 → Float → ℕ → ℕ
+hitsOf g m c r n = loop (hitAt g m c r n) 0 n 0
+
+-- the angle that h hits of n stand for
+unfoldable pub angleOf : ℕ → ℕ → Float
+angleOf h n = div binary64 (mul binary64 tau (float h)) (float n)
+
+unfoldable pub engagementOf : Grid → List ℕ → Vec2 → Float → ℕ → Float
+engagementOf g m c r samples = angleOf (hitsOf g m c r (samplesOf samples)) (samplesOf samples)
+
+-- w holds the directions of n samples, as cosine and sine
+pub record Rim (n : ℕ) (w : List Float) : Type 0 where
+  pub long : 2 * n ≤ length w
+  pub x : (k : ℕ) → k < n → getD w (2 * k) nan ≡ directionAt n k .x
+  pub y : (k : ℕ) → k < n → getD w (2 * k + 1) nan ≡ directionAt n k .y
+
+-- sample k's direction is written to w
+unfoldable pub putRim : ℕ → ℕ → List Float → List Float
+putRim n k w = set (set w (2 * k) (directionAt n k .x)) (2 * k + 1) (directionAt n k .y)
+
+unfoldable pub rimmed : ℕ → List Float → List Float
+rimmed n w = loop (putRim n) 0 n w

@@ -1,0 +1,72 @@
+-- A raster's cells: numbers, centres, and the cell at a point, operation by operation as in raster.rs. Definitions only.
+use Prim.Native.Nat.{ℕ, _+_, _*_, _≤_, _<_}
+use mathlib.Core.Bool.{Bool, true, false, cond, not, _&&_, _||_}
+use mathlib.Core.List.{List}
+use lib.ListN.{getD}
+use lib.IntN.{pos}
+use lib.Dec.{eqb, ltb}
+use lib.Ieee.{Float, binary64, ofBits, ofInt, toUnsigned, add, sub, mul, div, lt}
+use Rattle.numbers.specs.Order.{isFinite}
+use Rattle.geom.specs.Vec.{v2, f0, sum}
+use Rattle.geom.specs.declared.vec2.Vec2.{Vec2}
+use Rattle.raster.specs.declared.grid.Grid.{Grid}
+use Rattle.raster.specs.declared.grid.CellNo.{CellNo}
+use Rattle.raster.specs.declared.grid.Found.{Found}
+use Rattle.raster.specs.declared.grid.Found.the-variants.{Nothing, At}
+
+-- the sizes of document 01, question 14
+pub record Sides (g : Grid) : Type 0 where
+  pub wide : 0 < g .nx
+  pub high : 0 < g .ny
+  pub columns : g .nx ≤ 4096
+  pub rows : g .ny ≤ 4096
+  pub cells : g .ny * g .nx ≤ 1048576
+
+-- a map of n bytes holds the grid's cells
+pub record Over (g : Grid) (n : ℕ) : Type 0 where
+  pub sides : Sides g
+  pub long : g .ny * g .nx ≤ n
+
+abbrev pub half : Float
+half = ofBits binary64 0x3fe0_0000_0000_0000
+
+-- a whole number as a float
+abbrev pub float : ℕ → Float
+float n = ofInt binary64 (pos n)
+
+unfoldable pub numbered : Grid → ℕ → ℕ → CellNo
+numbered g i j = record { 0 = j * g .nx + i }
+
+-- how far cell i's centre is from the corner
+abbrev pub offset : Grid → ℕ → Float
+offset g i = mul binary64 (add binary64 (float i) half) (g .cell)
+
+unfoldable pub centerOf : Grid → ℕ → ℕ → Vec2
+centerOf g i j = sum (g .origin) (v2 (offset g i) (offset g j))
+
+-- a column and a row that are on the grid
+unfoldable pub onGrid : Grid → ℕ → ℕ → Found
+onGrid g i j = cond (ltb i (g .nx) && ltb j (g .ny)) (At i j) Nothing
+
+-- a point's place in columns, and in rows
+abbrev pub columnAt : Grid → Vec2 → Float
+columnAt g p = div binary64 (sub binary64 (p .x) (g .origin .x)) (g .cell)
+
+abbrev pub rowAt : Grid → Vec2 → Float
+rowAt g p = div binary64 (sub binary64 (p .y) (g .origin .y)) (g .cell)
+
+-- below the corner, or no number
+abbrev pub astray : Float → Float → Bool
+astray fx fy = lt fx f0 || (lt fy f0 || (not (isFinite fx) || not (isFinite fy)))
+
+-- the cell that holds p, if it is on the grid
+unfoldable pub cellOf : Grid → Vec2 → Found
+cellOf g p = cond (astray (columnAt g p) (rowAt g p)) Nothing (onGrid g (toUnsigned 64 (columnAt g p)) (toUnsigned 64 (rowAt g p)))
+
+-- a cell that exists and is set
+abbrev pub stockIn : Grid → List ℕ → Found → Bool
+stockIn g m Nothing = false
+stockIn g m (At i j) = eqb (getD m (j * g .nx + i) 0) 1
+
+unfoldable pub stockAt : Grid → List ℕ → Vec2 → Bool
+stockAt g m p = stockIn g m (cellOf g p)

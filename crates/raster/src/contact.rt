@@ -1,0 +1,74 @@
+// Contact: the angle of a tool's rim over stock. The directions of the samples are worked out once,
+// into a lent table.
+ghost use mathlib.Core.Path.{_≡_};
+ghost use Prim.Native.Nat.{_*_, _≤_, _<_};
+ghost use lib.ListN.{length};
+ghost use Rattle.raster.specs.Grid.{Over};
+ghost use Rattle.raster.specs.Contact.{samplesOf, directionAt, hitsOf, angleOf, engagementOf, Rim, rimmed};
+use super::grid::Grid;
+use super::grid::at;
+use super::grid::float_of;
+use geom::vec2::Vec2;
+
+const TAU: f64 = 6.28318530717958647692528676655900577;
+
+pub fn samples_of(n: usize) -> usize
+    ensures { λ r. ⌜ r ≡ samplesOf n ⌝ }
+{
+    if n < 8 { 8 } else { n }
+}
+
+// The direction of sample k of n.
+pub fn direction_at(n: usize, k: usize) -> Vec2
+    ensures { λ u. ⌜ u ≡ directionAt n k ⌝ }
+{
+    Vec2::from_angle(TAU * (float_of(k) + 0.5) / float_of(n))
+}
+
+// Fills the table of n samples: cosine and sine of each.
+pub fn fill_rim(rim: &mut [f64], n: usize)
+    requires { ⌜ 2 * n ≤ length (now rim) ⌝ }
+    ensures { λ _. ⌜ (now (rim .exit) ≡ rimmed n (now (rim .entry))) × Rim n (now (rim .exit)) ⌝ }
+{
+    for k in 0..n {
+        let u = direction_at(n, k);
+        rim[2 * k] = u.x;
+        rim[2 * k + 1] = u.y;
+    }
+}
+
+// How many of n samples of the rim of radius r at c are over stock.
+pub fn hits(g: Grid, map: &[u8], c: Vec2, r: f64, rim: &[f64], n: usize) -> usize
+    requires { ⌜ Over g (length (now map)) ⌝ }
+    requires { ⌜ Rim n (now rim) ⌝ }
+    ensures { λ h. ⌜ h ≡ hitsOf g (now (map .entry)) c r n ⌝ }
+{
+    let mut h = 0;
+    for k in 0..n {
+        let u = Vec2 {
+            x: rim[2 * k],
+            y: rim[2 * k + 1],
+        };
+        if at(g, map, c.add(u.scale(r))) {
+            h += 1;
+        }
+    }
+    h
+}
+
+// The angle that hits of n samples stand for.
+pub fn angle_of(hits: usize, n: usize) -> f64
+    ensures { λ a. ⌜ a ≡ angleOf hits n ⌝ }
+{
+    TAU * float_of(hits) / float_of(n)
+}
+
+// Contact of a tool of radius r at c. The table is of the samples, at least 8.
+pub fn engagement(g: Grid, map: &[u8], c: Vec2, r: f64, rim: &[f64], samples: usize) -> f64
+    requires { ⌜ Over g (length (now map)) ⌝ }
+    requires { ⌜ Rim (samplesOf samples) (now rim) ⌝ }
+    ensures { λ a. ⌜ a ≡ engagementOf g (now (map .entry)) c r samples ⌝ }
+{
+    let n = samples_of(samples);
+    angle_of(hits(g, map, c, r, rim, n), n)
+}

@@ -1,0 +1,111 @@
+// A raster's cells: their numbers and centres, and the cell at a point.
+ghost use mathlib.Core.Path.{_≡_};
+ghost use Prim.Native.Nat.{_<_, _%_, _/_, _^_};
+ghost use lib.ListN.{length};
+ghost use Rattle.raster.specs.Grid.{Sides, Over, float, numbered, centerOf, cellOf, stockAt};
+use geom::vec2::Vec2;
+
+pub struct Grid {
+    // Lower-left corner of cell (0, 0).
+    pub origin: Vec2,
+    pub cell: f64,
+    pub nx: usize,
+    pub ny: usize,
+}
+
+// The number of a cell.
+pub struct CellNo(pub u32);
+
+// The cell at a point, as column and row.
+pub enum Found {
+    Nothing,
+    At(usize, usize),
+}
+
+pub fn cell_no(g: Grid, i: usize, j: usize) -> CellNo
+    requires { ⌜ Sides g ⌝ }
+    requires { ⌜ i < g .nx ⌝ }
+    requires { ⌜ j < g .ny ⌝ }
+    ensures { λ c. ⌜ c ≡ numbered g i j ⌝ }
+{
+    let nx = g.nx;
+    CellNo((j * nx + i) as u32)
+}
+
+pub fn column_of(g: Grid, c: CellNo) -> usize
+    requires { ⌜ Sides g ⌝ }
+    ensures { λ i. ⌜ i ≡ c .0 % g .nx ⌝ }
+{
+    c.0 as usize % g.nx
+}
+
+pub fn row_of(g: Grid, c: CellNo) -> usize
+    requires { ⌜ Sides g ⌝ }
+    ensures { λ j. ⌜ j ≡ c .0 / g .nx ⌝ }
+{
+    c.0 as usize / g.nx
+}
+
+// A cell's place in the map, and back.
+pub fn index_of(c: CellNo) -> usize
+    ensures { λ k. ⌜ k ≡ c .0 ⌝ }
+{
+    c.0 as usize
+}
+
+pub fn cell_at(k: usize) -> CellNo
+    requires { ⌜ k < 2 ^ 32 ⌝ }
+    ensures { λ c. ⌜ c .0 ≡ k ⌝ }
+{
+    CellNo(k as u32)
+}
+
+// A whole number as a float, rounded as by Rust's `as`.
+pub fn float_of(n: usize) -> f64
+    ensures { λ r. ⌜ r ≡ float n ⌝ }
+{
+    std::num::nearest_u64_to_f64(n as u64)
+}
+
+pub fn center(g: Grid, i: usize, j: usize) -> Vec2
+    ensures { λ p. ⌜ p ≡ centerOf g i j ⌝ }
+{
+    let origin = g.origin;
+    origin.add(Vec2 {
+        x: (float_of(i) + 0.5) * g.cell,
+        y: (float_of(j) + 0.5) * g.cell,
+    })
+}
+
+// The tests turn NaN back, and an infinity's column is beyond every grid's.
+pub fn cell_of(g: Grid, p: Vec2) -> Found
+    ensures { λ f. ⌜ f ≡ cellOf g p ⌝ }
+{
+    let fx = (p.x - g.origin.x) / g.cell;
+    let fy = (p.y - g.origin.y) / g.cell;
+    if fx >= 0.0 {
+        if fy >= 0.0 {
+            let i = numbers::cast::sat_u64(fx) as usize;
+            if i < g.nx {
+                let j = numbers::cast::sat_u64(fy) as usize;
+                if j < g.ny {
+                    return Found::At(i, j);
+                }
+            }
+        }
+    }
+    Found::Nothing
+}
+
+// Stock at a point; none off the grid.
+pub fn at(g: Grid, map: &[u8], p: Vec2) -> bool
+    requires { ⌜ Over g (length (now map)) ⌝ }
+    ensures { λ b. ⌜ b ≡ stockAt g (now (map .entry)) p ⌝ }
+{
+    let f = cell_of(g, p);
+    let Found::At(i, j) = f else {
+        return false;
+    };
+    let k = index_of(cell_no(g, i, j));
+    map[k] == 1
+}
