@@ -3,3 +3,4 @@
 pub mod of_distance;
 pub mod of_geom;
 pub mod of_numbers;
+pub mod of_raster;

@@ -10,7 +10,7 @@ use geom::region::Region;
 use geom::vec2::Vec2;
 
 // Puts a vector into the first two places.
-fn put(v: Vec2, out: &mut [f64])
+pub fn put(v: Vec2, out: &mut [f64])
     requires { ⌜ 2 ≤ length (now out) ⌝ }
     ensures { λ _. ⌜ now (out .exit) ≡ put2 v (now (out .entry)) ⌝ }
 {

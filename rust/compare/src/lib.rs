@@ -1,7 +1,7 @@
 //! The proved library beside the published Rust.
 //!
 //! `numbers` lists the functions to compare, `ffi` declares them, `inputs` has the numbers they are
-//! compared on; `distance` and `geom` have the functions that are lent slices. The tests compare bits and the
+//! compared on; `distance`, `geom` and `raster` have the functions that are lent slices. The tests compare bits and the
 //! programs `bench` and `bench_distance` time.
 pub mod bits;
 pub mod distance;
@@ -9,3 +9,4 @@ pub mod ffi;
 pub mod geom;
 pub mod inputs;
 pub mod numbers;
+pub mod raster;

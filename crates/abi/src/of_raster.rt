@@ -1,0 +1,236 @@
+// The functions of `raster`. A grid goes in as its corner, its cell and its sides; an answer of two
+// numbers comes back as one, the second times 2^32.
+ghost use mathlib.Core.Path.{_≡_};
+ghost use Prim.Native.Nat.{_+_, _*_, _≤_, _<_};
+ghost use lib.ListN.{length};
+ghost use Rattle.loops.specs.Cells.{ones};
+ghost use Rattle.geom.specs.Vec.{v2};
+ghost use Rattle.raster.specs.Grid.{Over, centerOf, cellOf, stockAt};
+ghost use Rattle.raster.specs.Stock.{cl, clearDisk, countDisk, intersection};
+ghost use Rattle.raster.specs.Log.{st, Ready, Logged, clearAfter, undone, redone};
+ghost use Rattle.raster.specs.Contact.{samplesOf, engagementOf};
+ghost use Rattle.abi.specs.Geom.{put2};
+ghost use Rattle.abi.specs.Raster.{grid, packedCell};
+use geom::vec2::Vec2;
+use raster::grid::Found;
+use raster::grid::Grid;
+
+// The cell at a point, or u64::MAX.
+#[no_mangle]
+pub extern "C" fn raster_cell_of(
+    ox: f64,
+    oy: f64,
+    cell: f64,
+    nx: usize,
+    ny: usize,
+    x: f64,
+    y: f64,
+) -> u64
+    requires { ⌜ nx ≤ 4096 ⌝ }
+    requires { ⌜ ny ≤ 4096 ⌝ }
+    ensures { λ r. ⌜ r ≡ packedCell (cellOf (grid ox oy cell nx ny) (v2 x y)) ⌝ }
+{
+    let origin = Vec2 { x: ox, y: oy };
+    let f = raster::grid::cell_of(
+        Grid {
+            origin,
+            cell,
+            nx,
+            ny,
+        },
+        Vec2 { x, y },
+    );
+    match f {
+        Found::Nothing => 0xffff_ffff_ffff_ffff,
+        Found::At(i, j) => pack(i, j),
+    }
+}
+
+fn pack(i: usize, j: usize) -> u64
+    requires { ⌜ i < 4096 ⌝ }
+    requires { ⌜ j < 4096 ⌝ }
+    ensures { λ r. ⌜ r ≡ j * 0x1_0000_0000 + i ⌝ }
+{
+    (j as u64) * 0x1_0000_0000 + (i as u64)
+}
+
+#[no_mangle]
+pub extern "C" fn raster_center(ox: f64, oy: f64, cell: f64, i: usize, j: usize, out: &mut [f64])
+    requires { ⌜ 2 ≤ length (now out) ⌝ }
+    ensures { λ _. ⌜ now (out .exit) ≡ put2 (centerOf (grid ox oy cell 1 1) i j) (now (out .entry)) ⌝ }
+{
+    let origin = Vec2 { x: ox, y: oy };
+    let g = Grid {
+        origin,
+        cell,
+        nx: 1,
+        ny: 1,
+    };
+    super::of_geom::put(raster::grid::center(g, i, j), out);
+}
+
+#[no_mangle]
+pub extern "C" fn raster_at(
+    ox: f64,
+    oy: f64,
+    cell: f64,
+    nx: usize,
+    ny: usize,
+    map: &[u8],
+    x: f64,
+    y: f64,
+) -> bool
+    requires { ⌜ Over (grid ox oy cell nx ny) (length (now map)) ⌝ }
+    ensures { λ b. ⌜ b ≡ stockAt (grid ox oy cell nx ny) (now (map .entry)) (v2 x y) ⌝ }
+{
+    let origin = Vec2 { x: ox, y: oy };
+    let g = Grid {
+        origin,
+        cell,
+        nx,
+        ny,
+    };
+    raster::grid::at(g, map, Vec2 { x, y })
+}
+
+#[no_mangle]
+pub extern "C" fn raster_count(map: &[u8]) -> usize
+    ensures { λ n. ⌜ n ≡ ones (now (map .entry)) ⌝ }
+{
+    raster::stock::count(map)
+}
+
+#[no_mangle]
+pub extern "C" fn raster_intersect(map: &mut [u8], other: &[u8])
+    requires { ⌜ length (now map) ≤ length (now other) ⌝ }
+    ensures { λ _. ⌜ now (map .exit) ≡ intersection (now (map .entry)) (now (other .entry)) ⌝ }
+{
+    raster::stock::intersect(map, other);
+}
+
+#[no_mangle]
+pub extern "C" fn raster_clear_disk(
+    ox: f64,
+    oy: f64,
+    cell: f64,
+    nx: usize,
+    ny: usize,
+    map: &mut [u8],
+    x: f64,
+    y: f64,
+    r: f64,
+) -> usize
+    requires { ⌜ Over (grid ox oy cell nx ny) (length (now map)) ⌝ }
+    ensures { λ n. ⌜ cl (now (map .exit)) n ≡ clearDisk (grid ox oy cell nx ny) (v2 x y) r (now (map .entry)) ⌝ }
+{
+    let origin = Vec2 { x: ox, y: oy };
+    let g = Grid {
+        origin,
+        cell,
+        nx,
+        ny,
+    };
+    raster::stock::clear_disk(g, map, Vec2 { x, y }, r)
+}
+
+#[no_mangle]
+pub extern "C" fn raster_count_disk(
+    ox: f64,
+    oy: f64,
+    cell: f64,
+    nx: usize,
+    ny: usize,
+    map: &[u8],
+    x: f64,
+    y: f64,
+    r: f64,
+) -> usize
+    requires { ⌜ Over (grid ox oy cell nx ny) (length (now map)) ⌝ }
+    ensures { λ n. ⌜ n ≡ countDisk (grid ox oy cell nx ny) (v2 x y) r (now (map .entry)) ⌝ }
+{
+    let origin = Vec2 { x: ox, y: oy };
+    let g = Grid {
+        origin,
+        cell,
+        nx,
+        ny,
+    };
+    raster::stock::count_disk(g, map, Vec2 { x, y }, r)
+}
+
+#[no_mangle]
+pub extern "C" fn raster_clear_disk_after_logged(
+    ox: f64,
+    oy: f64,
+    cell: f64,
+    nx: usize,
+    ny: usize,
+    map: &mut [u8],
+    px: f64,
+    py: f64,
+    x: f64,
+    y: f64,
+    r: f64,
+    log: &mut [u32],
+    count: usize,
+) -> usize
+    requires { ⌜ Over (grid ox oy cell nx ny) (length (now map)) ⌝ }
+    requires { ⌜ Ready (st (now map) (now log) count) ⌝ }
+    ensures { λ n. ⌜ st (now (map .exit)) (now (log .exit)) n ≡ clearAfter (grid ox oy cell nx ny) (v2 px py) (v2 x y) r (st (now (map .entry)) (now (log .entry)) count) ⌝ }
+{
+    let origin = Vec2 { x: ox, y: oy };
+    let g = Grid {
+        origin,
+        cell,
+        nx,
+        ny,
+    };
+    let prev = Vec2 { x: px, y: py };
+    raster::log::clear_disk_after_logged(g, map, prev, Vec2 { x, y }, r, log, count)
+}
+
+#[no_mangle]
+pub extern "C" fn raster_undo(map: &mut [u8], log: &[u32], count: usize)
+    requires { ⌜ Logged (now log) count (length (now map)) ⌝ }
+    ensures { λ _. ⌜ now (map .exit) ≡ undone (now (log .entry)) 0 count (now (map .entry)) ⌝ }
+{
+    raster::log::undo(map, log, count);
+}
+
+#[no_mangle]
+pub extern "C" fn raster_clear_again(map: &mut [u8], log: &[u32], count: usize)
+    requires { ⌜ Logged (now log) count (length (now map)) ⌝ }
+    ensures { λ _. ⌜ now (map .exit) ≡ redone (now (log .entry)) 0 count (now (map .entry)) ⌝ }
+{
+    raster::log::clear_again(map, log, count);
+}
+
+// The table of directions is filled first.
+#[no_mangle]
+pub extern "C" fn raster_engagement(
+    ox: f64,
+    oy: f64,
+    cell: f64,
+    nx: usize,
+    ny: usize,
+    map: &[u8],
+    x: f64,
+    y: f64,
+    r: f64,
+    samples: usize,
+    rim: &mut [f64],
+) -> f64
+    requires { ⌜ Over (grid ox oy cell nx ny) (length (now map)) ⌝ }
+    requires { ⌜ 2 * samplesOf samples ≤ length (now rim) ⌝ }
+    ensures { λ a. ⌜ a ≡ engagementOf (grid ox oy cell nx ny) (now (map .entry)) (v2 x y) r samples ⌝ }
+{
+    let origin = Vec2 { x: ox, y: oy };
+    let g = Grid {
+        origin,
+        cell,
+        nx,
+        ny,
+    };
+    raster::contact::fill_rim(rim, raster::contact::samples_of(samples));
+    raster::contact::engagement(g, map, Vec2 { x, y }, r, rim, samples)
+}

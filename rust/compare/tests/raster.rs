@@ -1,0 +1,155 @@
+//! The proved stock map against the published one, on random grids, points on edges and off the grid, and
+//! radii from 0 to beyond the map: results, every cell and the log.
+use compare::bits::Bits;
+use compare::raster::Stock;
+use oracle::generate::Rng;
+use oracle::raster::Grid;
+use oracle::vec2::{Vec2, v2};
+
+/// At least this many calls of each function.
+const CALLS: usize = 100_000;
+
+/// The same grid and map on both sides.
+fn pair(r: &mut Rng) -> (Stock, Grid) {
+    let (nx, ny) = (1 + r.below(24) as usize, 1 + r.below(24) as usize);
+    let cell = [1.0, 0.25, 0.1, 0.075, 3.7][r.below(5) as usize];
+    let origin = match r.below(3) {
+        0 => v2(0.0, 0.0),
+        1 => v2(-3.0, 7.5),
+        _ => v2(r.range(-50.0, 50.0), r.range(-50.0, 50.0)),
+    };
+    let mut stock = Stock::new(origin, cell, nx, ny);
+    let share = [1.0, 0.5, 0.0, 0.9][r.below(4) as usize];
+    let data: Vec<bool> = (0..nx * ny).map(|_| r.chance(share)).collect();
+    stock.map = data.iter().map(|&b| b as u8).collect();
+    (stock, Grid { origin, cell, nx, ny, data })
+}
+
+/// A point on, beside or off the grid: on corners and centres of cells, or anywhere.
+fn point(r: &mut Rng, g: &Grid) -> Vec2 {
+    let (w, h) = (g.nx as f64, g.ny as f64);
+    let at = |r: &mut Rng, o: f64, n: f64| match r.below(4) {
+        0 => o + r.below(n as u64 + 2) as f64 * g.cell,
+        1 => o + (r.below(n as u64 + 1) as f64 + 0.5) * g.cell,
+        2 => o + r.range(-0.5 * n - 1.0, 1.5 * n + 1.0) * g.cell,
+        _ => o + r.range(0.0, n) * g.cell,
+    };
+    v2(at(r, g.origin.x, w), at(r, g.origin.y, h))
+}
+
+fn radius(r: &mut Rng, g: &Grid) -> f64 {
+    match r.below(6) {
+        0 => 0.0,
+        1 => g.cell * r.below(8) as f64,
+        2 => g.cell * 60.0,
+        _ => g.cell * r.range(0.0, 9.0),
+    }
+}
+
+fn same_map(stock: &Stock, grid: &Grid) {
+    let want: Vec<u8> = grid.data.iter().map(|&b| b as u8).collect();
+    assert_eq!(stock.map, want);
+    assert_eq!(stock.standing(), grid.count());
+}
+
+/// `calls` times: a pair, then some checks of it.
+fn each(seed: u64, calls: usize, mut check: impl FnMut(&mut Rng, Stock, Grid)) {
+    let mut r = Rng(seed);
+    for _ in 0..calls {
+        let (stock, grid) = pair(&mut r);
+        check(&mut r, stock, grid);
+    }
+}
+
+#[test]
+fn cells_and_centres() {
+    each(31, CALLS / 4, |r, stock, grid| {
+        for _ in 0..4 {
+            let p = point(r, &grid);
+            assert_eq!(stock.cell_of(p), grid.cell_of(p), "{p:?} {grid:?}");
+            assert_eq!(stock.at(p), grid.at(p), "{p:?} {grid:?}");
+            let (i, j) = (r.below(grid.nx as u64) as usize, r.below(grid.ny as u64) as usize);
+            let (a, b) = (stock.center(i, j), grid.center(i, j));
+            assert_eq!((a.x.bits(), a.y.bits()), (b.x.bits(), b.y.bits()));
+        }
+        for p in [v2(f64::NAN, 0.0), v2(f64::INFINITY, 0.0), v2(0.0, -f64::INFINITY), v2(-0.0, -0.0)] {
+            assert_eq!(stock.cell_of(p), grid.cell_of(p), "{p:?} {grid:?}");
+        }
+    });
+}
+
+#[test]
+fn disks() {
+    each(32, CALLS / 4, |r, mut stock, mut grid| {
+        for _ in 0..4 {
+            let (c, rad) = (point(r, &grid), radius(r, &grid));
+            assert_eq!(stock.count_disk(c, rad), grid.count_disk(c, rad), "{c:?} {rad} {grid:?}");
+            assert_eq!(stock.clear_disk(c, rad), grid.clear_disk(c, rad), "{c:?} {rad}");
+            same_map(&stock, &grid);
+        }
+    });
+}
+
+#[test]
+fn crescents_their_log_and_undoing() {
+    each(33, CALLS / 4, |r, mut stock, mut grid| {
+        let first = grid.clone();
+        let (mut log, rad) = (Vec::new(), radius(r, &grid));
+        let mut prev = point(r, &grid);
+        for _ in 0..4 {
+            let step = v2(r.range(-2.0, 2.0), r.range(-2.0, 2.0)) * grid.cell;
+            let c = if r.chance(0.8) { prev + step } else { point(r, &grid) };
+            let n = grid.clear_disk_after_logged(prev, c, rad, &mut log);
+            assert_eq!(stock.clear_disk_after_logged(prev, c, rad), n, "{prev:?} {c:?} {rad}");
+            same_map(&stock, &grid);
+            prev = c;
+        }
+        let got: Vec<usize> = stock.log[..stock.count].iter().map(|&k| k as usize).collect();
+        assert_eq!(got, log);
+        assert!(stock.log[stock.count..].iter().all(|&k| k == u32::MAX));
+        stock.undo();
+        same_map(&stock, &first);
+        stock.clear_again();
+        same_map(&stock, &grid);
+    });
+}
+
+#[test]
+fn contact() {
+    each(34, CALLS / 4, |r, stock, grid| {
+        for _ in 0..4 {
+            let (c, rad) = (point(r, &grid), radius(r, &grid));
+            let samples = [0, 4, 8, 9, 48, 96][r.below(6) as usize];
+            let want = grid.engagement_printed(c, rad, samples);
+            assert_eq!(stock.engagement(c, rad, samples).bits(), want.bits(), "{c:?} {rad} {samples}");
+        }
+    });
+}
+
+#[test]
+fn maps_intersected() {
+    each(35, CALLS, |r, mut stock, mut grid| {
+        let mut other = grid.clone();
+        other.data.iter_mut().for_each(|b| *b = r.chance(0.6));
+        let bytes: Vec<u8> = other.data.iter().map(|&b| b as u8).collect();
+        grid.intersect(&other);
+        stock.intersect(&bytes);
+        same_map(&stock, &grid);
+    });
+}
+
+/// Bytes that are neither 0 nor 1 are no stock: they stay, and are neither counted nor logged.
+#[test]
+fn other_bytes_stay() {
+    each(36, 1_000, |r, mut stock, grid| {
+        stock.map.iter_mut().for_each(|b| *b += 2 * (r.below(2) as u8));
+        let before = stock.map.clone();
+        let (c, rad) = (point(r, &grid), radius(r, &grid));
+        stock.clear_disk_after_logged(c, point(r, &grid), rad);
+        for (k, (&a, &b)) in before.iter().zip(&stock.map).enumerate() {
+            assert!(a == b || (a == 1 && b == 0 && stock.log[..stock.count].contains(&(k as u32))));
+        }
+        stock.undo();
+        assert_eq!(stock.map, before);
+    });
+}
