@@ -1,16 +1,16 @@
 -- The larger and the smaller of two floats against a bound; then the guard of a limit, max (half the limit, min (0.95 limit, y)), for every y, a NaN too:
--- it is below the limit and above zero, and 0.85 of it is at most it. In Rust's order of operands, and in the document's. Assumes nothing.
-use mathlib.Core.Path.{_≡_, refl, sym, _∙_, subst}
+-- it is below the limit and above zero, and 0.85 of it is at most it. Assumes nothing.
+use mathlib.Core.Path.{_≡_, sym, _∙_, subst}
 use mathlib.Core.Bool.{true, false, cond}
 use lib.Dec.{T}
-use lib.Ieee.{Float, binary64, sub, mul, lt, le, isNan, fits, ofBits}
+use lib.Ieee.{Float, binary64, mul, lt, le, isNan, fits}
 use lib.Ieee.Fits.{cond-fits, mul-fits}
 use lib.Ieee.Positive.{positive}
 use Rattle.loops.proofs.Cases.{by-test, never}
 use Rattle.floats.proofs.OrderLaws.{le-refl, le-lt, lt-le, lt-numbers, lt-to-le, not-lt-le}
 use Rattle.floats.proofs.SignLaws.{sign-up}
 use Rattle.floats.proofs.SwapLaws.{mul-swap}
-use Rattle.floats.proofs.ShareLaws.{Normal, c50, c85, c95, lt-95, lt-95-right, lt-half, lt-half-right, half-above, le-85, le-85-right}
+use Rattle.floats.proofs.ShareLaws.{Normal, c50, c85, c95, lt-95, lt-half-right, half-above, le-85}
 use Rattle.numbers.specs.Order.{maxOf, minOf}
 use Rattle.numbers.proofs.WholeLaws.{nought}
 
@@ -56,49 +56,23 @@ module _ (a b : Float) where
 
 -- ---- the guard
 
--- Rust's (y).min(limit * 0.95).max(0.5 * limit)
+-- document 01's max (half the limit, min (0.95 limit, y))
 abbrev pub guardOf : Float → Float → Float
-guardOf limit y = maxOf (minOf y (mul binary64 limit c95)) (mul binary64 c50 limit)
-
--- the document's max (limit * 0.5, min (0.95 * limit, y))
-abbrev pub guardIn : Float → Float → Float
-guardIn limit y = maxOf (mul binary64 limit c50) (minOf (mul binary64 c95 limit) y)
-
--- Rust writes 0.95 as 1.0 - 0.05
-pub margin : sub binary64 (ofBits binary64 0x3ff0000000000000) (ofBits binary64 0x3fa999999999999a) ≡ c95
-unfolding ofBits sub
-margin = refl
+guardOf limit y = maxOf (mul binary64 limit c50) (minOf (mul binary64 c95 limit) y)
 
 module _ (limit y : Float) (X : T (positive limit)) (F : T (fits binary64 limit)) (N : Normal binary64 limit) where
   pub guard-lt : lt (guardOf limit y) limit ≡ true
-  guard-lt = max-lt _ (mul binary64 c50 limit) limit (min-lt-right y (mul binary64 limit c95) limit (lt-95-right limit X F N)) (lt-half limit X F N)
-
-  pub guard-in-lt : lt (guardIn limit y) limit ≡ true
-  guard-in-lt = max-lt (mul binary64 limit c50) _ limit (lt-half-right limit X F N) (min-lt-left (mul binary64 c95 limit) y limit (lt-95 limit X F N))
+  guard-lt = max-lt (mul binary64 limit c50) _ limit (lt-half-right limit X F N) (min-lt-left (mul binary64 c95 limit) y limit (lt-95 limit X F N))
 
   pub guard-above : lt nought (guardOf limit y) ≡ true
   guard-above =
-      let h = half-above limit X F N in
-      lt-le nought (mul binary64 c50 limit) (guardOf limit y) h (max-ge-right (minOf y (mul binary64 limit c95)) (mul binary64 c50 limit) (lt-numbers nought (mul binary64 c50 limit) h .1))
-
-  pub guard-in-above : lt nought (guardIn limit y) ≡ true
-  guard-in-above =
       let h : lt nought (mul binary64 limit c50) ≡ true = subst (λ (z : Float). lt nought z ≡ true) (mul-swap binary64 c50 limit) (half-above limit X F N) in
-      lt-le nought (mul binary64 limit c50) (guardIn limit y) h (max-ge-left (mul binary64 limit c50) (minOf (mul binary64 c95 limit) y) (lt-numbers nought (mul binary64 limit c50) h .1))
+      lt-le nought (mul binary64 limit c50) (guardOf limit y) h (max-ge-left (mul binary64 limit c50) (minOf (mul binary64 c95 limit) y) (lt-numbers nought (mul binary64 limit c50) h .1))
 
 pub guard-fits : (limit y : Float) → T (fits binary64 y) → T (fits binary64 (guardOf limit y))
 guard-fits limit y F =
-    max-fits (minOf y (mul binary64 limit c95)) (mul binary64 c50 limit) (min-fits y (mul binary64 limit c95) F (mul-fits binary64 limit c95)) (mul-fits binary64 c50 limit)
-
-pub guard-in-fits : (limit y : Float) → T (fits binary64 y) → T (fits binary64 (guardIn limit y))
-guard-in-fits limit y F =
     max-fits (mul binary64 limit c50) (minOf (mul binary64 c95 limit) y) (mul-fits binary64 limit c50) (min-fits (mul binary64 c95 limit) y (mul-fits binary64 c95 limit) F)
 
--- ---- the target, 0.85 of a guard g
-
-module _ (g : Float) (G : lt nought g ≡ true) (F : T (fits binary64 g)) where
-  pub target-le : le (mul binary64 g c85) g ≡ true
-  target-le = le-85-right g (sign-up nought g tt G) F
-
-  pub target-in-le : le (mul binary64 c85 g) g ≡ true
-  target-in-le = le-85 g (sign-up nought g tt G) F
+-- the target, 0.85 of a guard g, is at most it
+pub target-le : (g : Float) → lt nought g ≡ true → T (fits binary64 g) → le (mul binary64 c85 g) g ≡ true
+target-le g G F = le-85 g (sign-up nought g tt G) F

@@ -1,0 +1,3 @@
+-- What the contracts of `setup` cite.
+pub mod Limits
+pub mod Place
