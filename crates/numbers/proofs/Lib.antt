@@ -2,6 +2,7 @@ pub mod CastLaws
 pub mod OrderLaws
 pub mod WholeLaws
 pub mod PartLaws
+pub mod ShiftLaws
 pub mod NarrowLaws
 pub mod RootLaws
 pub mod HalfLaws

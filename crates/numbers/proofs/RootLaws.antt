@@ -1,21 +1,20 @@
 -- Roots of whole numbers: what `rootOfNat` of specs/ says, a square by halves, a digit of a root, and from the nearest whole number to half a root to the rounded root of a float.
 -- Assumes nothing.
 use mathlib.Core.Path.{_≡_, refl, sym, ap, _∙_, subst}
-use mathlib.Core.Logic.{_⊎_, inl, inr}
-use mathlib.Core.Bool.{Bool, true, false, not, _&&_, _||_, Bool·beq, cond, true≢false}
+use mathlib.Core.Logic.{inl, inr}
+use mathlib.Core.Bool.{Bool, true, false, not, _&&_, _||_, cond, true≢false}
 use Prim.Native.Nat.{ℕ, zero, suc, _+_, _-_, _*_, _/_, _%_, _^_, _≤_, _<_, zero-le}
-use native.Mathlib.Nat.{le-refl, le-trans, le-of-eq, le-of-lt, lt-of-lt-of-le, lt-of-le-of-lt, lt-irrefl, lt-of-not-le, not-le-of-lt, le-of-suc-le-suc, zero-lt-suc, le-add-right, one-mul, mul-one, mul-comm, mul-assoc, mul-left-comm, mul-right-comm, mul-mul-mul-comm, mul-add, add-mul, add-assoc, add-comm, add-left-comm, mul-pos, mul-le-mul, mul-le-mul-right, mul-le-mul-left, mul-lt-mul-of-pos-right, le-of-mul-le-mul-right, lt-of-mul-lt-mul-right, eq-of-mul-eq-mul-right, eq-or-lt-of-le, mul-div-cancel, le-div-iff-mul-le, div-lt-iff-lt-mul, pow-suc, pow-succ', mul-mod-left, mod-lt, mod-eq-of-lt}
+use native.Mathlib.Nat.{le-trans, le-of-eq, le-of-lt, lt-of-lt-of-le, lt-of-le-of-lt, lt-irrefl, lt-of-not-le, not-le-of-lt, zero-lt-suc, le-add-right, mul-comm, mul-assoc, mul-left-comm, mul-right-comm, mul-mul-mul-comm, mul-add, add-mul, mul-pos, mul-le-mul, mul-le-mul-right, mul-le-mul-left, mul-lt-mul-of-pos-right, eq-or-lt-of-le, mul-div-cancel, div-lt-iff-lt-mul, pow-suc, pow-succ', mul-mod-left}
 use native.Mathlib.Omega.{arith}
 use native.Mathlib.Decide.{decLt, decLe}
 use lib.Dec.{T, leb, ltb, eqb, lit≤}
-use lib.Pow.{pow-add, pow-pos, pow-mono, pow-lt}
+use lib.Pow.{pow-add, pow-pos, pow-mono}
 use lib.Ieee.Digits.{size-lt}
-use lib.IntN.{pos}
 use lib.Ieee.{Float, nan, inf, fin, binary64, up, down, size, units, round, lt, eq, ofBits, nanBits}
 use lib.Ieee.Bits.{nanBits-above}
-use lib.Ieee.Fits.{up-pos, down-pos}
+use lib.Ieee.Fits.{up-pos}
 use lib.Ieee.Positive.{num, den, positive, den-pos}
-use borrow.Author.Tests.{leb-true, leb-false, ltb-true, ltb-false, le-leb, lt-leb, le-ltb, lt-ltb, eqb-true, eqb-false, eq-eqb, ne-eqb}
+use borrow.Author.Tests.{leb-true, leb-false, ltb-false, le-leb, lt-leb, le-ltb, lt-ltb, eqb-true, eqb-false, eq-eqb, ne-eqb}
 use Rattle.floats.proofs.RoundLaws.{round-normal, round-bits, closest-is}
 use Rattle.numbers.proofs.PartLaws.{joined}
 use Rattle.numbers.proofs.WholeLaws.{nought}
@@ -322,34 +321,34 @@ module _ (n q H X : ℕ) (HP : 0 < H) (E : X ≡ n * (H * H)) (N : NearRoot n q)
             let f : 2 * (y * H) * u < W * u = mul-lt-mul-of-pos-right h U in
             omega arith
 
--- ---- from a float's mantissa m and exponent e: n is m * 2 ^ c, with c 44 or 45, so that e + 44 is c and an even number
-module _ (x : Float) (m e c g q : ℕ) (P : T (positive x)) (Y : Normal x m e) (C : e + 44 ≡ c + (g + g)) (clo : 44 ≤ c) (chi : c ≤ 45) (N : NearRoot (m * 2 ^ c) q) where
+-- ---- from a float's mantissa m and exponent e: n is m * 2 ^ c, with c 54 or 55, so that e + 54 is c and an even number
+module _ (x : Float) (m e c g q : ℕ) (P : T (positive x)) (Y : Normal x m e) (C : e + 54 ≡ c + (g + g)) (clo : 54 ≤ c) (chi : c ≤ 55) (N : NearRoot (m * 2 ^ c) q) where
   abbrev h : ℕ
   h = g + 484
 
   whole-part : num x * 2 ^ 2148 / den x ≡ m * 2 ^ c * (2 ^ h * 2 ^ h)
   whole-part =
       ap (λ (z : ℕ). z / den x)
-      (sym (joined (num x) 1136 1012 2148 refl)
-      ∙ ap (λ (z : ℕ). z * 2 ^ 1012) (Y .val)
-      ∙ mul-right-comm (m * 2 ^ e) (den x) (2 ^ 1012)
-      ∙ ap (λ (z : ℕ). z * den x) (joined m e 1012 (c + (h + h)) (exps e c g C) ∙ ap (λ (z : ℕ). m * z) (pow-add 2 c (h + h)) ∙ sym (mul-assoc m (2 ^ c) (2 ^ (h + h))) ∙ ap (λ (z : ℕ). m * 2 ^ c * z) (pow-add 2 h h)))
+      (sym (joined (num x) 1126 1022 2148 refl)
+      ∙ ap (λ (z : ℕ). z * 2 ^ 1022) (Y .val)
+      ∙ mul-right-comm (m * 2 ^ e) (den x) (2 ^ 1022)
+      ∙ ap (λ (z : ℕ). z * den x) (joined m e 1022 (c + (h + h)) (exps e c g C) ∙ ap (λ (z : ℕ). m * z) (pow-add 2 c (h + h)) ∙ sym (mul-assoc m (2 ^ c) (2 ^ (h + h))) ∙ ap (λ (z : ℕ). m * 2 ^ c * z) (pow-add 2 h h)))
       ∙ mul-div-cancel (m * 2 ^ c * (2 ^ h * 2 ^ h)) (den-pos x)
     where
-      exps : (e c g : ℕ) → e + 44 ≡ c + (g + g) → e + 1012 ≡ c + (g + 484 + (g + 484))
+      exps : (e c g : ℕ) → e + 54 ≡ c + (g + g) → e + 1022 ≡ c + (g + 484 + (g + 484))
       exps e c g h = omega arith
 
   is-even : m * 2 ^ c % 2 ≡ 0
   is-even = ap (λ (z : ℕ). m * 2 ^ z % 2) (turn c clo) ∙ ap (λ (z : ℕ). m * z % 2) (pow-suc 2 (c - 1)) ∙ ap (λ (z : ℕ). z % 2) (sym (mul-assoc m (2 ^ (c - 1)) 2)) ∙ mul-mod-left (m * 2 ^ (c - 1)) 2
     where
-      turn : (c : ℕ) → 44 ≤ c → c ≡ suc (c - 1)
+      turn : (c : ℕ) → 54 ≤ c → c ≡ suc (c - 1)
       turn c h = omega arith
 
   n-low : 2 ^ 106 ≤ m * 2 ^ c
-  n-low = mul-le-mul {n₁ = 2 ^ 62} {m₁ = 2 ^ 44} (Y .lo) (pow-mono clo)
+  n-low = mul-le-mul {n₁ = 2 ^ 52} {m₁ = 2 ^ 54} (Y .lo) (pow-mono clo)
 
   n-high : m * 2 ^ c < 2 ^ 108
-  n-high = lt-of-lt-of-le (mul-lt-mul-of-pos-right (Y .hi) (pow-pos c)) (mul-le-mul-left (2 ^ 63) (pow-mono chi))
+  n-high = lt-of-lt-of-le (mul-lt-mul-of-pos-right (Y .hi) (pow-pos c)) (mul-le-mul-left (2 ^ 53) (pow-mono chi))
 
   doubled : 2 ^ (g + 485) ≡ 2 * 2 ^ h
   doubled = ap (λ (z : ℕ). 2 ^ z) (next g) ∙ pow-succ' 2 h
@@ -369,7 +368,7 @@ module _ (x : Float) (m e c g q : ℕ) (P : T (positive x)) (Y : Normal x m e) (
   pub pattern-lt : (g + 485) * 2 ^ 52 + q < 2047 * 2 ^ 52
   pattern-lt = go e c g q C (Y .few) clo high-enough
     where
-      go : (e c g q : ℕ) → e + 44 ≡ c + (g + g) → e < 2200 → 44 ≤ c → q ≤ 9007199254740992 → (g + 485) * 4503599627370496 + q < 2047 * 4503599627370496
+      go : (e c g q : ℕ) → e + 54 ≡ c + (g + g) → e < 2200 → 54 ≤ c → q ≤ 9007199254740992 → (g + 485) * 4503599627370496 + q < 2047 * 4503599627370496
       go e c g q a b d f = omega arith
 
   pub root-bits : ofBits binary64 ((g + 485) * 2 ^ 52 + q) ≡ rootOf x
@@ -388,27 +387,27 @@ pub record Result (x : Float) (e q : ℕ) : Type 0 where
   pub few : (e / 2 + 485) * 2 ^ 52 + q < 2047 * 2 ^ 52
   pub is : ofBits binary64 ((e / 2 + 485) * 2 ^ 52 + q) ≡ rootOf x
 
-pub result : (x : Float) (m e q : ℕ) → T (positive x) → Normal x m e → NearRoot ((m / 1024 + m / 1024 * (e % 2)) * 2 ^ 54) q → Result x e q
+pub result : (x : Float) (m e q : ℕ) → T (positive x) → Normal x m e → NearRoot ((m + m * (e % 2)) * 2 ^ 54) q → Result x e q
 result x m e q P Y N = by-cases (eqb (e % 2) 0) (λ h. even (eqb-true (e % 2) 0 h)) (λ h. odd (eqb-false (e % 2) 0 h))
   where
-    at : (c : ℕ) → e + 44 ≡ c + (e / 2 + e / 2) → 44 ≤ c → c ≤ 45 → NearRoot (m * 2 ^ c) q → Result x e q
+    at : (c : ℕ) → e + 54 ≡ c + (e / 2 + e / 2) → 54 ≤ c → c ≤ 55 → NearRoot (m * 2 ^ c) q → Result x e q
     at c C a b R = record { few = pattern-lt x m e c (e / 2) q P Y C a b R; is = root-bits x m e c (e / 2) q P Y C a b R }
 
-    same : (d k : ℕ) (n : ℕ) → e % 2 ≡ k → (d + d * k) * 2 ^ 54 ≡ n → m / 1024 ≡ d → NearRoot n q
-    same d k n h g i = subst (λ (z : ℕ). NearRoot z q) (ap (λ (z : ℕ). (m / 1024 + m / 1024 * z) * 2 ^ 54) h ∙ ap (λ (z : ℕ). (z + z * k) * 2 ^ 54) i ∙ g) N
+    same : (k n : ℕ) → e % 2 ≡ k → (m + m * k) * 2 ^ 54 ≡ n → NearRoot n q
+    same k n h g = subst (λ (z : ℕ). NearRoot z q) (ap (λ (z : ℕ). (m + m * z) * 2 ^ 54) h ∙ g) N
 
     even : e % 2 ≡ 0 → Result x e q
     even h =
-        let C : e + 44 ≡ 44 + (e / 2 + e / 2) = omega arith in
-        let M : (m / 1024 + m / 1024 * 0) * 2 ^ 54 ≡ m * 2 ^ 44 = omega (arith, Y .end) in
-        at 44 C (lit≤ tt) (lit≤ tt) (same (m / 1024) 0 (m * 2 ^ 44) h M refl)
+        let C : e + 54 ≡ 54 + (e / 2 + e / 2) = omega arith in
+        let M : (m + m * 0) * 2 ^ 54 ≡ m * 2 ^ 54 = omega arith in
+        at 54 C (lit≤ tt) (lit≤ tt) (same 0 (m * 2 ^ 54) h M)
 
     odd : (e % 2 ≡ 0 → ⊥) → Result x e q
     odd h =
         let o : e % 2 ≡ 1 = omega arith in
-        let C : e + 44 ≡ 45 + (e / 2 + e / 2) = omega arith in
-        let M : (m / 1024 + m / 1024 * 1) * 2 ^ 54 ≡ m * 2 ^ 45 = omega (arith, Y .end) in
-        at 45 C (lit≤ tt) (lit≤ tt) (same (m / 1024) 1 (m * 2 ^ 45) o M refl)
+        let C : e + 54 ≡ 55 + (e / 2 + e / 2) = omega arith in
+        let M : (m + m * 1) * 2 ^ 54 ≡ m * 2 ^ 55 = omega arith in
+        at 55 C (lit≤ tt) (lit≤ tt) (same 1 (m * 2 ^ 55) o M)
 
 -- a pattern below the infinity's is no NaN's
 pub no-nan-bits : (b : ℕ) → b < 2047 * 2 ^ 52 → T (not (nanBits binary64 b))

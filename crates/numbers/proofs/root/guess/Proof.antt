@@ -9,14 +9,8 @@ use Rattle.numbers.proofs.root.guess.Tie as tie
 float-from-bits-v : tie.Need-float-from-bits-v
 float-from-bits-v c = no-nan-bits _ (omega (arith, c .pre))
 
-sub-y : tie.Need-sub-y
-sub-y c = search needs
-
-float-from-bits-y : tie.Need-float-from-bits-y
-float-from-bits-y c = no-nan-bits _ (omega (arith, c .pre))
-
 float-to-bits-result : tie.Need-float-to-bits-result
-float-to-bits-result c = no-nan-below _ _ (c .if2 .taken)
+float-to-bits-result c = no-nan-below _ _ (c .if1 .taken)
 
 add-result : tie.Need-add-result
 add-result c = search needs
@@ -27,8 +21,5 @@ returns c = search needs
 returns-2 : tie.Need-returns-2
 returns-2 c = search needs
 
-returns-3 : tie.Need-returns-3
-returns-3 c = search needs
-
 pub guess-spec : {M : Type 1} → statement M
-guess-spec = tie.close (tie.spec float-from-bits-v sub-y float-from-bits-y float-to-bits-result add-result returns returns-2 returns-3)
+guess-spec = tie.close (tie.spec float-from-bits-v float-to-bits-result add-result returns returns-2)

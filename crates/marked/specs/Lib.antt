@@ -1,0 +1,2 @@
+-- Document 01's table "Marked for proof".
+pub mod Table

@@ -1,0 +1,25 @@
+-- `vectors::float::single_pattern` is safe. Assumes nothing.
+use native.Mathlib.Omega.{arith}
+use mathlib.Core.Path.{sym, subst}
+use lib.Dec.{T}
+use lib.Ieee.{binary32}
+use lib.Ieee.Bits.{toBits-lt}
+use Rattle.vectors.proofs.FloatLaws.{no-nan}
+use borrow.Author.Needs.{needs}
+use Rattle.vectors.proofs.float.single_pattern.Statement.{statement}
+use Rattle.vectors.proofs.float.single_pattern.Tie as tie
+
+float-to-bits-result : tie.Need-float-to-bits-result
+float-to-bits-result c = no-nan (c .before .args .x) (c .if1 .taken)
+
+cast-result : tie.Need-cast-result
+cast-result c = omega (arith, toBits-lt binary32 (c .before .args .x) (subst T (sym (c .before .good .0 .1)) tt))
+
+returns : tie.Need-returns
+returns c = search needs
+
+returns-2 : tie.Need-returns-2
+returns-2 c = search needs
+
+pub single-pattern-spec : {M : Type 1} → statement M
+single-pattern-spec = tie.close (tie.spec float-to-bits-result cast-result returns returns-2)
