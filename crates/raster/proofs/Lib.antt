@@ -8,4 +8,6 @@ pub mod LogLaws
 pub mod ContactLaws
 pub mod RunLaws
 pub mod ClearLaws
+pub mod SortLaws
+pub mod FillLaws
 pub mod Marked

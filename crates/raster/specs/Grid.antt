@@ -4,13 +4,16 @@ use mathlib.Core.Bool.{Bool, true, false, cond, not, _&&_, _||_}
 use mathlib.Core.List.{List}
 use lib.ListN.{getD}
 use lib.IntN.{pos}
-use lib.Dec.{eqb, ltb}
+use lib.Dec.{eqb, ltb, leb}
 use lib.Ieee.{Float, binary64, ofBits, ofInt, toUnsigned, add, sub, mul, div, lt}
 use Rattle.numbers.specs.Order.{isFinite}
-use Rattle.geom.specs.Vec.{v2, f0, sum}
+use Rattle.numbers.specs.Whole.{ceilOf}
+use Rattle.geom.specs.Vec.{v2, f0, sum, difference}
 use Rattle.geom.specs.declared.vec2.Vec2.{Vec2}
 use Rattle.raster.specs.declared.grid.Grid.{Grid}
 use Rattle.raster.specs.declared.grid.CellNo.{CellNo}
+use Rattle.raster.specs.declared.grid.Raster.{Raster}
+use Rattle.raster.specs.declared.grid.Raster.the-variants.{TooLarge, Of}
 use Rattle.raster.specs.declared.grid.Found.{Found}
 use Rattle.raster.specs.declared.grid.Found.the-variants.{Nothing, At}
 
@@ -33,6 +36,29 @@ half = ofBits binary64 0x3fe0_0000_0000_0000
 -- a whole number as a float
 abbrev pub float : ℕ → Float
 float n = ofInt binary64 (pos n)
+
+-- 2.0
+abbrev pub f2 : Float
+f2 = ofBits binary64 0x4000_0000_0000_0000
+
+-- the whole cells from lo to hi with the margin on both sides; a side has one more
+unfoldable pub reachOf : Float → Float → Float → Float → ℕ
+reachOf lo hi cell margin = toUnsigned 64 (ceilOf (div binary64 (add binary64 (sub binary64 hi lo) (mul binary64 f2 margin)) cell))
+
+unfoldable pub gridOf : Vec2 → Vec2 → Float → Float → Grid
+gridOf lo hi cell margin = record {
+  origin = difference lo (v2 margin margin);
+  cell = cell;
+  nx = reachOf (lo .x) (hi .x) cell margin + 1;
+  ny = reachOf (lo .y) (hi .y) cell margin + 1;
+}
+
+-- a grid that is not too large
+unfoldable pub sized : Grid → Raster
+sized g = cond (leb (g .nx) 4096 && (leb (g .ny) 4096 && leb (g .ny * g .nx) 1048576)) (Of g) TooLarge
+
+unfoldable pub newGrid : Vec2 → Vec2 → Float → Float → Raster
+newGrid lo hi cell margin = sized (gridOf lo hi cell margin)
 
 unfoldable pub numbered : Grid → ℕ → ℕ → CellNo
 numbered g i j = record { 0 = j * g .nx + i }

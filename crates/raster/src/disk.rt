@@ -21,27 +21,27 @@ pub struct Crescent {
     pub right: Span,
 }
 
-fn row_y(g: Grid, j: usize) -> f64
+pub fn row_y(g: Grid, j: usize) -> f64
     ensures { λ y. ⌜ y ≡ rowY g j ⌝ }
 {
     g.origin.y + (float_of(j) + 0.5) * g.cell
 }
 
 // A coordinate as a fractional cell number: the centre of cell i is at i.
-fn place(x: f64, o: f64, cell: f64) -> f64
+pub fn place(x: f64, o: f64, cell: f64) -> f64
     ensures { λ r. ⌜ r ≡ cellAt x o cell ⌝ }
 {
     (x - o) / cell - 0.5
 }
 
 // The first whole cell number from x on.
-fn first_from(x: f64) -> f64
+pub fn first_from(x: f64) -> f64
     ensures { λ r. ⌜ r ≡ firstFrom x ⌝ }
 {
     numbers::order::max(numbers::whole::ceil(x), 0.0)
 }
 
-fn at_most_last(i: usize, n: usize) -> usize
+pub fn at_most_last(i: usize, n: usize) -> usize
     ensures { λ r. ⌜ r ≡ min i (n - 1) ⌝ }
 {
     if i < n {

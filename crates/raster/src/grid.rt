@@ -2,7 +2,7 @@
 ghost use mathlib.Core.Path.{_≡_};
 ghost use Prim.Native.Nat.{_<_, _%_, _/_, _^_};
 ghost use lib.ListN.{length};
-ghost use Rattle.raster.specs.Grid.{Sides, Over, float, numbered, centerOf, cellOf, stockAt};
+ghost use Rattle.raster.specs.Grid.{Sides, Over, reachOf, newGrid, float, numbered, centerOf, cellOf, stockAt};
 use geom::vec2::Vec2;
 
 pub struct Grid {
@@ -20,6 +20,46 @@ pub struct CellNo(pub u32);
 pub enum Found {
     Nothing,
     At(usize, usize),
+}
+
+// A grid that is not too large.
+pub enum Raster {
+    TooLarge,
+    Of(Grid),
+}
+
+// The whole cells from lo to hi with the margin on both sides, less one.
+fn reach(lo: f64, hi: f64, cell: f64, margin: f64) -> usize
+    ensures { λ n. ⌜ n ≡ reachOf lo hi cell margin ⌝ }
+{
+    numbers::cast::sat_u64(numbers::whole::ceil((hi - lo + 2.0 * margin) / cell)) as usize
+}
+
+// The grid over lo..hi with a margin around it, turned back where it is larger than document 01 allows.
+pub fn new(lo: Vec2, hi: Vec2, cell: f64, margin: f64) -> Raster
+    ensures { λ r. ⌜ r ≡ newGrid lo hi cell margin ⌝ }
+{
+    let w = reach(lo.x, hi.x, cell, margin);
+    let h = reach(lo.y, hi.y, cell, margin);
+    if w < 4096 {
+        if h < 4096 {
+            let nx = w + 1;
+            let ny = h + 1;
+            if ny * nx <= 1048576 {
+                let origin = lo.sub(Vec2 {
+                    x: margin,
+                    y: margin,
+                });
+                return Raster::Of(Grid {
+                    origin,
+                    cell,
+                    nx,
+                    ny,
+                });
+            }
+        }
+    }
+    Raster::TooLarge
 }
 
 pub fn cell_no(g: Grid, i: usize, j: usize) -> CellNo

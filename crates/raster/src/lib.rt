@@ -2,6 +2,8 @@
 // cell, 1 where the cell is stock.
 pub mod contact;
 pub mod disk;
+pub mod fill;
 pub mod grid;
 pub mod log;
+pub mod sort;
 pub mod stock;
