@@ -6,4 +6,3 @@ pub mod RowLaws
 pub mod NearestLaws
 pub mod RootedLaws
 pub mod LimitLaws
-pub mod Marked

@@ -1,18 +1,40 @@
 -- The marked table holds: each row is computed. Assumes nothing.
 use mathlib.Core.Path.{refl}
-use lib.Ieee.{round, ofBits, ofInt, neg, add, sub, mul, div, le}
+use lib.Ieee.{round, ofBits, toBits, ofInt, toUnsigned, neg, add, sub, mul, div, lt, le, eq, isNan}
+use Rattle.loops.specs.Loop.{turns, loop}
+use Rattle.loops.specs.Cells.{ones}
 use Rattle.numbers.specs.Narrow.{narrowOf}
 use Rattle.numbers.specs.Root.{rootOf}
-use Rattle.numbers.specs.Circle.{cosOf, cosSeries, sinSeries}
+use Rattle.numbers.specs.Circle.{cosOf, sinOf, cosSeries, sinSeries}
+use Rattle.numbers.specs.Whole.{floorOf, ceilOf}
+use Rattle.numbers.specs.Order.{maxOf, isFinite, rankOf, totalOf}
+use Rattle.geom.specs.Vec.{sum, difference, scaled, fromAngle}
+use Rattle.geom.specs.Region.{vertexOf, straddlesOf, crossingOf, startOf, crossed, loopCrossings, crossingsIn, crossingsOf}
+use Rattle.raster.specs.Grid.{reachOf, gridOf, sized, newGrid, onGrid, cellOf, stockAt}
+use Rattle.raster.specs.Disk.{rowY, cellAt, firstFrom, colsOf, diskRow, lastRow, rowsOf, leftOf, rightOf, less, crescentRow}
+use Rattle.raster.specs.Sweep.{overSpan, diskAt, overDisk, crescentAt, overCrescent}
+use Rattle.raster.specs.Stock.{dropCell, clearDisk}
+use Rattle.raster.specs.Log.{clearCell, clearAfter, undone}
+use Rattle.raster.specs.Contact.{samplesOf, directionAt, rimAt, hitAt, hitsOf, angleOf, engagementOf}
+use Rattle.raster.specs.Sort.{precedes, swapped, sunk, sortedOf}
+use Rattle.raster.specs.Fill.{between, pairSpan, pairAt, fillPair, fillRow, rowCrossings, fillAt, fillRegion}
+use Rattle.distance.specs.Nearest.{nearestInRow, nearest, listed, squaresOf}
+use Rattle.distance.specs.Rooted.{distanceOf, distanceTransform}
 use Rattle.marked.specs.Table.{Table}
 
 pub table : Table
-unfolding ofBits round narrowOf rootOf cosOf cosSeries sinSeries ofInt neg add sub mul div le
+unfolding ofBits toBits round narrowOf rootOf cosOf sinOf cosSeries sinSeries ofInt toUnsigned neg add sub mul div lt le eq isNan turns loop ones
+    floorOf ceilOf maxOf isFinite rankOf totalOf sum difference scaled fromAngle vertexOf straddlesOf crossingOf startOf crossed loopCrossings crossingsIn
+    crossingsOf reachOf gridOf sized newGrid onGrid cellOf stockAt rowY cellAt firstFrom colsOf diskRow lastRow rowsOf leftOf rightOf less crescentRow
+    overSpan diskAt overDisk crescentAt overCrescent dropCell clearDisk clearCell clearAfter undone samplesOf directionAt rimAt hitAt hitsOf angleOf
+    engagementOf precedes swapped sunk sortedOf between pairSpan pairAt fillPair fillRow rowCrossings fillAt fillRegion nearestInRow nearest listed
+    squaresOf distanceOf distanceTransform
 table = record {
-  numbers = record {
-    cosine = refl;
-    root = refl;
-    narrow-even = refl;
-    narrow-odd = refl;
-  };
+  numbers = record { cosine = refl; root = refl; narrow-even = refl; narrow-odd = refl };
+  disks = record { once = refl; twice = refl };
+  crescents = record { log = refl; standing = refl; undone-all = refl; to-itself = refl };
+  contacts = record { samples = refl; all = refl; none = refl };
+  cells = record { off = refl; first = refl };
+  squares = record { sides = refl; set = refl };
+  distances = record { mid = refl; none = refl };
 }

@@ -10,4 +10,3 @@ pub mod RunLaws
 pub mod ClearLaws
 pub mod SortLaws
 pub mod FillLaws
-pub mod Marked
