@@ -6,7 +6,9 @@ mod line;
 mod name;
 mod of_numbers;
 
+ghost use mathlib.Core.Path.{_≡_};
 ghost use Prim.Native.Nat.{_<_};
+ghost use Rattle.vectors.specs.OfNumbers.{answerOf};
 use libc::STDIN_FILENO;
 use libc::STDOUT_FILENO;
 use name::COUNT;
@@ -26,8 +28,10 @@ struct Place {
     number: u64,
 }
 
-// What a function's number says of the words after its name.
-fn compared(f: usize, w: line::Words) -> Verdict {
+// What a function's number says of the words after its name. Where they agree, the last is the answer.
+fn compared(f: usize, w: line::Words) -> Verdict
+    ensures { λ r. ⌜ (r ≡ Verdict.Agrees f → w .last ≡ answerOf f (w .a) (w .b) (w .c)) ⌝ }
+{
     if w.bad | (w.count != of_numbers::arguments(f) + 1) {
         return Verdict::Bad;
     }

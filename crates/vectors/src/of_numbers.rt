@@ -1,5 +1,8 @@
 // The answers of `numbers`, by a function's number (see `name`). A float is its bit pattern.
+ghost use mathlib.Core.Path.{_≡_};
 ghost use Prim.Native.Nat.{_≤_};
+ghost use Rattle.numbers.specs.Order.{totalOf};
+ghost use Rattle.vectors.specs.OfNumbers.{flagOf, signOf, floatOfOne, oneOf, answerOf};
 use super::float::float;
 use super::float::pattern;
 use super::float::single_pattern;
@@ -16,12 +19,16 @@ pub fn arguments(f: usize) -> u64
     }
 }
 
-fn flag(b: bool) -> u64 {
+fn flag(b: bool) -> u64
+    ensures { λ r. ⌜ r ≡ flagOf b ⌝ }
+{
     if b { 1 } else { 0 }
 }
 
 // 0, 1 or 2: less, equal or greater.
-fn order(a: f64, b: f64) -> u64 {
+fn order(a: f64, b: f64) -> u64
+    ensures { λ r. ⌜ r ≡ signOf (totalOf a b) ⌝ }
+{
     let o = numbers::order::total_cmp(a, b);
     match o {
         Ordering::Less => 0,
@@ -30,16 +37,16 @@ fn order(a: f64, b: f64) -> u64 {
     }
 }
 
-fn whole(f: usize, x: f64) -> f64 {
+// Of one number, the float answers.
+fn float_of_one(f: usize, x: f64) -> f64
+    ensures { λ r. ⌜ r ≡ floatOfOne f x ⌝ }
+{
     match f {
+        5 => numbers::order::abs(x),
         7 => numbers::whole::floor(x),
         8 => numbers::whole::ceil(x),
-        _ => numbers::whole::round(x),
-    }
-}
-
-fn circle(f: usize, x: f64) -> f64 {
-    match f {
+        9 => numbers::whole::round(x),
+        11 => numbers::root::sqrt(x),
         12 => numbers::circle::cos(x),
         13 => numbers::circle::sin(x),
         14 => numbers::circle::to_radians(x),
@@ -48,20 +55,21 @@ fn circle(f: usize, x: f64) -> f64 {
 }
 
 // Of one number.
-fn of_one(f: usize, x: f64) -> u64 {
+fn of_one(f: usize, x: f64) -> u64
+    ensures { λ r. ⌜ r ≡ oneOf f x ⌝ }
+{
     match f {
         0 => numbers::cast::sat_u64(x),
         1 => numbers::cast::sat_u32(x) as u64,
-        5 => pattern(numbers::order::abs(x)),
         6 => flag(numbers::order::is_finite(x)),
-        7 | 8 | 9 => pattern(whole(f, x)),
         10 => single_pattern(numbers::narrow::narrow(x)),
-        11 => pattern(numbers::root::sqrt(x)),
-        _ => pattern(circle(f, x)),
+        _ => pattern(float_of_one(f, x)),
     }
 }
 
-pub fn answer(f: usize, w: Words) -> u64 {
+pub fn answer(f: usize, w: Words) -> u64
+    ensures { λ r. ⌜ r ≡ answerOf f (w .a) (w .b) (w .c) ⌝ }
+{
     let a = float(w.a);
     let b = float(w.b);
     let c = float(w.c);

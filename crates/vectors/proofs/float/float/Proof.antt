@@ -1,11 +1,12 @@
--- `vectors::float::float` is safe: the pattern is no NaN's. Assumes nothing.
+-- `vectors::float::float` meets its contract. Assumes nothing.
 use mathlib.Core.Path.{sym, subst, _∙_}
 use mathlib.Core.Bool.{Bool, not}
 use Prim.Native.Nat.{_*_, _%_, _^_}
 use lib.Dec.{T}
-use lib.Ieee.{binary64}
+use lib.Ieee.{binary64, ofBits, div}
 use lib.Ieee.Bits.{nanBits-above}
-use borrow.Author.Tests.{le-ltb}
+use borrow.Author.Tests.{le-ltb, lt-ltb}
+use Rattle.vectors.proofs.FloatLaws.{nan-read}
 use borrow.Author.Needs.{needs}
 use Rattle.vectors.proofs.float.float.Statement.{statement}
 use Rattle.vectors.proofs.float.float.Tie as tie
@@ -16,7 +17,10 @@ float-from-bits-result c =
     subst (λ (k : Bool). T (not k)) (sym (nanBits-above binary64 b ∙ le-ltb (2047 * 2 ^ 52) (b % 9223372036854775808) (c .if1 .left))) tt
 
 returns : tie.Need-returns
-returns c = search needs
+unfolding ofBits div
+returns c =
+    let b = c .before .args .bits in
+    nan-read binary64 b (nanBits-above binary64 b ∙ lt-ltb (2047 * 2 ^ 52) (b % 9223372036854775808) (c .if1 .taken))
 
 returns-2 : tie.Need-returns-2
 returns-2 c = search needs

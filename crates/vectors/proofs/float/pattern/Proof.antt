@@ -1,5 +1,7 @@
--- `vectors::float::pattern` is safe. Assumes nothing.
-use Rattle.vectors.proofs.FloatLaws.{no-nan}
+-- `vectors::float::pattern` meets its contract. Assumes nothing.
+use mathlib.Core.Path.{ap}
+use lib.Ieee.{binary64, toBits}
+use Rattle.vectors.proofs.FloatLaws.{no-nan, the-nan}
 use borrow.Author.Needs.{needs}
 use Rattle.vectors.proofs.float.pattern.Statement.{statement}
 use Rattle.vectors.proofs.float.pattern.Tie as tie
@@ -11,7 +13,8 @@ returns : tie.Need-returns
 returns c = search needs
 
 returns-2 : tie.Need-returns-2
-returns-2 c = search needs
+unfolding toBits
+returns-2 c = ap (toBits binary64) (the-nan (c .before .args .x) (c .if1 .left))
 
 pub pattern-spec : {M : Type 1} → statement M
 pattern-spec = tie.close (tie.spec float-to-bits-result returns returns-2)

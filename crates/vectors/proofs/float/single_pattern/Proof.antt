@@ -1,10 +1,10 @@
--- `vectors::float::single_pattern` is safe. Assumes nothing.
+-- `vectors::float::single_pattern` meets its contract. Assumes nothing.
 use native.Mathlib.Omega.{arith}
-use mathlib.Core.Path.{sym, subst}
+use mathlib.Core.Path.{sym, ap, subst}
 use lib.Dec.{T}
-use lib.Ieee.{binary32}
+use lib.Ieee.{binary32, toBits}
 use lib.Ieee.Bits.{toBits-lt}
-use Rattle.vectors.proofs.FloatLaws.{no-nan}
+use Rattle.vectors.proofs.FloatLaws.{no-nan, the-nan}
 use borrow.Author.Needs.{needs}
 use Rattle.vectors.proofs.float.single_pattern.Statement.{statement}
 use Rattle.vectors.proofs.float.single_pattern.Tie as tie
@@ -19,7 +19,8 @@ returns : tie.Need-returns
 returns c = search needs
 
 returns-2 : tie.Need-returns-2
-returns-2 c = search needs
+unfolding toBits
+returns-2 c = ap (toBits binary32) (the-nan (c .before .args .x) (c .if1 .left))
 
 pub single-pattern-spec : {M : Type 1} → statement M
 single-pattern-spec = tie.close (tie.spec float-to-bits-result cast-result returns returns-2)

@@ -1,0 +1,2 @@
+-- What the replay compares with.
+pub mod OfNumbers
