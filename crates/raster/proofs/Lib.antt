@@ -7,7 +7,9 @@ pub mod StockLaws
 pub mod LogLaws
 pub mod ContactLaws
 pub mod RunLaws
+pub mod PaintLaws
 pub mod ClearLaws
 pub mod SortLaws
 pub mod FillLaws
+pub mod FilledLaws
 pub mod Marked
