@@ -4,16 +4,16 @@ use mathlib.Core.Path.{_≡_, refl, sym, ap, _∙_, subst}
 use mathlib.Core.Bool.{Bool, true, false, cond, _||_, _&&_}
 use mathlib.Core.List.{List}
 use mathlib.Core.Logic.{_⊎_, inl, inr, ⊎-elim}
-use Prim.Native.Nat.{ℕ, zero, suc, _+_, _-_, _*_, _≤_, _<_}
+use Prim.Native.Nat.{ℕ, suc, _+_, _-_, _*_, _≤_, _<_}
 use native.Mathlib.Omega.{arith}
 use lib.ListN.{getD}
 use lib.Seq.{getD-set-same, getD-set-other}
 use lib.Dec.{eqb, ltb, leb}
 use lib.Ieee.{Float}
-use borrow.Author.Tests.{eqb-true, eqb-false, eq-eqb, ne-eqb, ltb-true, ltb-false, leb-true, leb-false}
-use Rattle.loops.specs.Loop.{turns, loop}
+use borrow.Author.Tests.{eqb-true, eqb-false, ltb-true, ltb-false, leb-true, leb-false}
+use Rattle.loops.specs.Loop.{any}
 use Rattle.loops.proofs.Cases.{by-cases, by-test, both}
-use Rattle.loops.proofs.CellLaws.{same-row, below-length, row-below}
+use Rattle.loops.proofs.CellLaws.{below-length}
 use Rattle.geom.specs.declared.vec2.Vec2.{Vec2}
 use Rattle.raster.specs.Grid.{Sides}
 use Rattle.raster.specs.Disk.{diskRow, crescentRow, rowsOf, leftOf, rightOf, less, two}
@@ -26,6 +26,7 @@ use Rattle.raster.specs.declared.disk.Span.{Span}
 use Rattle.raster.specs.declared.disk.Span.the-variants.{Empty, Cols}
 use Rattle.raster.proofs.RowLaws.{InRow, disk-in, crescent-in, rows-below}
 use Rattle.raster.proofs.SweepLaws.{disk-image, crescent-image}
+use Rattle.raster.proofs.PaintLaws.{or-left, or-right, or-none, any-at, any-none, inSpan, Has, span-has, span-lacks, span-beyond, pick, Changes, changes-then, changes-loop, changes-span}
 
 -- ---- one map for all ways of clearing
 
@@ -51,60 +52,25 @@ after-cells g prev c r s = crescent-image (λ (s : Stock). s .cells) clearCell w
 abbrev pub off : ℕ → ℕ
 off x = cond (eqb x 1) 0 x
 
--- one cell, cleared or not
-abbrev pub pick : Bool → ℕ → ℕ
-pick b x = cond b (off x) x
-
 off-off : (x : ℕ) → off (off x) ≡ off x
 off-off x = by-cases (eqb x 1) (λ e. simp e) (λ e. simp e)
 
-pick-pick : (a b : Bool) (x : ℕ) → pick b (pick a x) ≡ pick (a || b) x
-pick-pick true true x = off-off x
-pick-pick true false x = refl
-pick-pick false true x = refl
-pick-pick false false x = refl
+-- any map will do
+abbrev Map : List ℕ → Type 0
+Map m = Unit
 
--- t is s with the stock cells of P cleared
-pub Clears : (ℕ → Bool) → List ℕ → List ℕ → Type 0
-Clears P s t = (k : ℕ) → getD t k 0 ≡ pick (P k) (getD s k 0)
+module _ (n : ℕ) where
+  clears-cell : (i : ℕ) (s : List ℕ) → Map s → Changes off n (λ k. eqb k i) s (wipeCell i s)
+  unfolding Changes wipeCell
+  clears-cell i s q k h =
+      by-cases (eqb (getD s i 0) 1)
+      (λ e. rw e (by-cases (eqb k i)
+      (λ d. rw (d, eqb-true k i d, e) (getD-set-same s i 0 0 (below-length s i (eqb-true _ _ e))))
+      (λ d. rw d (getD-set-other s i k 0 0 (eqb-false k i d)))))
+      (λ e. rw e (by-cases (eqb k i) (λ d. rw (d, eqb-true k i d, e)) (λ d. rw d)))
 
-clears-then : (P Q : ℕ → Bool) (s t u : List ℕ) → Clears P s t → Clears Q t u → Clears (λ k. P k || Q k) s u
-unfolding Clears
-clears-then P Q s t u f g k = g k ∙ ap (pick (Q k)) (f k) ∙ pick-pick (P k) (Q k) (getD s k 0)
-
-clears-cell : (i : ℕ) (s : List ℕ) → Clears (λ k. eqb k i) s (wipeCell i s)
-unfolding Clears wipeCell
-clears-cell i s k =
-    by-cases (eqb (getD s i 0) 1)
-    (λ e. rw e (by-cases (eqb k i)
-    (λ d. rw (d, eqb-true k i d, e) (getD-set-same s i 0 0 (below-length s i (eqb-true _ _ e))))
-    (λ d. rw d (getD-set-other s i k 0 0 (eqb-false k i d)))))
-    (λ e. rw e (by-cases (eqb k i) (λ d. rw (d, eqb-true k i d, e)) (λ d. rw d)))
-
--- whether one of the numbers from a on, n of them, has p
-unfoldable pub any : (ℕ → Bool) → ℕ → ℕ → Bool
-any p a zero = false
-any p a (suc n) = any p a n || p (a + n)
-
-clears-turns : (f : ℕ → List ℕ → List ℕ) (P : ℕ → ℕ → Bool) → ((i : ℕ) (s : List ℕ) → Clears (P i) s (f i s)) → (a n : ℕ) (s : List ℕ) → Clears (λ k. any (λ i. P i k) a n) s (turns f a n s)
-unfolding turns any Clears
-clears-turns f P h a zero s k = refl
-clears-turns f P h a (suc n) s k =
-    h (a + n) (turns f a n s) k ∙ ap (pick (P (a + n) k)) (clears-turns f P h a n s k) ∙ pick-pick (any (λ i. P i k) a n) (P (a + n) k) (getD s k 0)
-
--- a loop clears what its turns clear
-clears-loop : (f : ℕ → List ℕ → List ℕ) (P : ℕ → ℕ → Bool) → ((i : ℕ) (s : List ℕ) → Clears (P i) s (f i s)) → (a e : ℕ) (s : List ℕ) → Clears (λ k. any (λ i. P i k) a (e - a)) s (loop f a e s)
-unfolding loop
-clears-loop f P h a e s = clears-turns f P h a (e - a) s
-
-abbrev inSpan : ℕ → Span → ℕ → Bool
-inSpan base Empty k = false
-inSpan base (Cols a b) k = any (λ i. eqb k i) (base + a) (base + b + 1 - (base + a))
-
-clears-span : (base : ℕ) (p : Span) (s : List ℕ) → Clears (inSpan base p) s (overSpan wipeCell base p s)
-unfolding overSpan Clears
-clears-span base Empty s k = refl
-clears-span base (Cols a b) s k = unfold Clears in (clears-loop wipeCell (λ i k. eqb k i) clears-cell (base + a) (base + b + 1) s k)
+  clears-span : (base : ℕ) (p : Span) (s : List ℕ) → Changes off n (inSpan base p) s (overSpan wipeCell base p s)
+  clears-span base p s = changes-span off off-off n Map wipeCell (λ i s q. tt) clears-cell base p s tt
 
 -- a row of one span or of two
 abbrev inRow : Grid → Crescent → ℕ → ℕ → Bool
@@ -114,88 +80,43 @@ or-false : (b : Bool) → b || false ≡ b
 or-false true = refl
 or-false false = refl
 
-clears-disk-at : (g : Grid) (c : Vec2) (r : Float) (j : ℕ) (s : List ℕ) → Clears (inRow g (two (diskRow g c r j) Empty) j) s (diskAt wipeCell g c r j s)
-unfolding diskAt Clears
-clears-disk-at g c r j s k =
-    unfold Clears in (clears-span (j * g .nx) (diskRow g c r j) s k) ∙ ap (λ (b : Bool). pick b (getD s k 0)) (sym (or-false (inSpan (j * g .nx) (diskRow g c r j) k)))
+module _ (n : ℕ) (g : Grid) where
+  clears-disk-at : (c : Vec2) (r : Float) (j : ℕ) (s : List ℕ) → Map s → Changes off n (inRow g (two (diskRow g c r j) Empty) j) s (diskAt wipeCell g c r j s)
+  unfolding diskAt Changes
+  clears-disk-at c r j s q k h =
+      unfold Changes in (clears-span n (j * g .nx) (diskRow g c r j) s k h)
+      ∙ ap (λ (b : Bool). pick off b (getD s k 0)) (sym (or-false (inSpan (j * g .nx) (diskRow g c r j) k)))
 
-clears-crescent-at : (g : Grid) (prev c : Vec2) (r : Float) (j : ℕ) (s : List ℕ) → Clears (inRow g (crescentRow g prev c r j) j) s (crescentAt wipeCell g prev c r j s)
-unfolding crescentAt
-clears-crescent-at g prev c r j s =
-    clears-then (inSpan (j * g .nx) (crescentRow g prev c r j .left)) (inSpan (j * g .nx) (crescentRow g prev c r j .right)) s _ _
-    (clears-span (j * g .nx) (crescentRow g prev c r j .left) s) (clears-span (j * g .nx) (crescentRow g prev c r j .right) _)
+  clears-crescent-at : (prev c : Vec2) (r : Float) (j : ℕ) (s : List ℕ) → Map s → Changes off n (inRow g (crescentRow g prev c r j) j) s (crescentAt wipeCell g prev c r j s)
+  unfolding crescentAt
+  clears-crescent-at prev c r j s q =
+      changes-then off off-off n (inSpan (j * g .nx) (crescentRow g prev c r j .left)) (inSpan (j * g .nx) (crescentRow g prev c r j .right)) s _ _
+      (clears-span n (j * g .nx) (crescentRow g prev c r j .left) s) (clears-span n (j * g .nx) (crescentRow g prev c r j .right) _)
 
 -- the rows from first to last, row j with the parts `part j`
 abbrev inRows : Grid → (ℕ → Crescent) → ℕ → ℕ → ℕ → Bool
-inRows g part first last k = any (λ j. inRow g (part j) j k) first (last + 1 - first)
+inRows g part first last k = any (λ j. inRow g (part j) j k) first (last + 1)
 
-clears-disk : (g : Grid) (c : Vec2) (r : Float) (s : List ℕ)
-    → Clears (inRows g (λ j. two (diskRow g c r j) Empty) (rowsOf g c r .0) (rowsOf g c r .1)) s (overDisk wipeCell g c r s)
-unfolding overDisk
-clears-disk g c r s =
-    clears-loop (diskAt wipeCell g c r) (λ j. inRow g (two (diskRow g c r j) Empty) j) (clears-disk-at g c r) (rowsOf g c r .0) (rowsOf g c r .1 + 1) s
+clears-disk : (g : Grid) (c : Vec2) (r : Float) (s : List ℕ) (k : ℕ)
+    → getD (overDisk wipeCell g c r s) k 0 ≡ pick off (inRows g (λ j. two (diskRow g c r j) Empty) (rowsOf g c r .0) (rowsOf g c r .1) k) (getD s k 0)
+unfolding overDisk Changes
+clears-disk g c r s k =
+    changes-loop off off-off (suc k) Map (diskAt wipeCell g c r) (λ i s q. tt) (λ j. inRow g (two (diskRow g c r j) Empty) j) (clears-disk-at (suc k) g c r)
+    (rowsOf g c r .0) (rowsOf g c r .1 + 1) s tt k (omega arith)
 
-clears-crescent : (g : Grid) (prev c : Vec2) (r : Float) (s : List ℕ)
-    → Clears (inRows g (crescentRow g prev c r) (rowsOf g c r .0) (rowsOf g c r .1)) s (overCrescent wipeCell g prev c r s)
-unfolding overCrescent
-clears-crescent g prev c r s =
-    clears-loop (crescentAt wipeCell g prev c r) (λ j. inRow g (crescentRow g prev c r j) j) (clears-crescent-at g prev c r) (rowsOf g c r .0) (rowsOf g c r .1 + 1) s
+clears-crescent : (g : Grid) (prev c : Vec2) (r : Float) (s : List ℕ) (k : ℕ)
+    → getD (overCrescent wipeCell g prev c r s) k 0 ≡ pick off (inRows g (crescentRow g prev c r) (rowsOf g c r .0) (rowsOf g c r .1) k) (getD s k 0)
+unfolding overCrescent Changes
+clears-crescent g prev c r s k =
+    changes-loop off off-off (suc k) Map (crescentAt wipeCell g prev c r) (λ i s q. tt) (λ j. inRow g (crescentRow g prev c r j) j) (clears-crescent-at (suc k) g prev c r)
+    (rowsOf g c r .0) (rowsOf g c r .1 + 1) s tt k (omega arith)
 
 -- ---- the same by column and row: cell (i, j) has the number j * nx + i
-
--- column i is in the span
-abbrev pub Has : ℕ → Span → Type 0
-Has i Empty = ⊥
-Has i (Cols a b) = (a ≤ i) × (i ≤ b)
-
-or-left : (a b : Bool) → a ≡ true → a || b ≡ true
-or-left a b e = rw e
-
-or-right : (a b : Bool) → b ≡ true → a || b ≡ true
-or-right true b e = refl
-or-right false b e = e
-
-or-none : (a b : Bool) → a ≡ false → b ≡ false → a || b ≡ false
-or-none a b e d = rw (e, d)
-
-any-at : (p : ℕ → Bool) (a n i : ℕ) → a ≤ i → i < a + n → p i ≡ true → any p a n ≡ true
-unfolding any
-any-at p a zero i h k e = absurd (let z : ⊥ = omega arith in z)
-any-at p a (suc n) i h k e =
-    by-cases (eqb i (a + n))
-    (λ d. or-right (any p a n) (p (a + n)) (ap p (sym (eqb-true i (a + n) d)) ∙ e))
-    (λ d. or-left (any p a n) (p (a + n)) (any-at p a n i h (let z : i < a + n = omega (arith, eqb-false i (a + n) d) in z) e))
-
-any-none : (p : ℕ → Bool) (a n : ℕ) → ((i : ℕ) → a ≤ i → i < a + n → p i ≡ false) → any p a n ≡ false
-unfolding any
-any-none p a zero h = refl
-any-none p a (suc n) h = or-none (any p a n) (p (a + n)) (any-none p a n (λ i b c. h i b (omega arith))) (h (a + n) (omega arith) (omega arith))
-
-span-has : (base i : ℕ) (p : Span) → Has i p → inSpan base p (base + i) ≡ true
-span-has base i Empty h = absurd h
-span-has base i (Cols a b) h =
-    any-at (λ q. eqb (base + i) q) (base + a) (base + b + 1 - (base + a)) (base + i) (omega (arith, h .0)) (omega (arith, h .0, h .1)) (eq-eqb (base + i) (base + i) refl)
-
-span-lacks : (nx j j′ i : ℕ) (p : Span) → InRow nx p → i < nx → (j ≡ j′ → Has i p → ⊥) → inSpan (j′ * nx) p (j * nx + i) ≡ false
-span-lacks nx j j′ i Empty r h f = refl
-span-lacks nx j j′ i (Cols a b) r h f =
-    any-none (λ q. eqb (j * nx + i) q) (j′ * nx + a) (j′ * nx + b + 1 - (j′ * nx + a))
-    (λ q l m. ne-eqb (j * nx + i) q (λ e.
-    let d : j ≡ j′ = same-row nx j j′ i (q - j′ * nx) h (omega (arith, r .0, r .1)) (omega arith) in
-    let z : j * nx ≡ j′ * nx = ap (λ (y : ℕ). y * nx) d in
-    f d (omega (arith, r .0, r .1))))
-
--- no span of a row below ny names a number from ny * nx on
-span-beyond : (nx ny j k : ℕ) (p : Span) → InRow nx p → j < ny → ny * nx ≤ k → inSpan (j * nx) p k ≡ false
-span-beyond nx ny j k Empty r h l = refl
-span-beyond nx ny j k (Cols a b) r h l =
-    any-none (λ q. eqb k q) (j * nx + a) (j * nx + b + 1 - (j * nx + a))
-    (λ q u w. ne-eqb k q (λ e. let z : ⊥ = omega (arith, row-below j ny nx k h l, r .0, r .1) in z))
 
 module _ (g : Grid) (part : ℕ → Crescent) (first last : ℕ) (parts : (j : ℕ) → InRow (g .nx) (part j .left) × InRow (g .nx) (part j .right)) where
   rows-beyond : last < g .ny → (k : ℕ) → g .ny * g .nx ≤ k → inRows g part first last k ≡ false
   rows-beyond w k l =
-      any-none (λ q. inRow g (part q) q k) first (last + 1 - first)
+      any-none (λ q. inRow g (part q) q k) first (last + 1)
       (λ q a b. or-none (inSpan (q * g .nx) (part q .left) k) (inSpan (q * g .nx) (part q .right) k)
       (span-beyond (g .nx) (g .ny) q k (part q .left) (parts q .0) (omega arith) l)
       (span-beyond (g .nx) (g .ny) q k (part q .right) (parts q .1) (omega arith) l))
@@ -203,7 +124,7 @@ module _ (g : Grid) (part : ℕ → Crescent) (first last : ℕ) (parts : (j : �
   module _ (i j : ℕ) (h : i < g .nx) where
     rows-has : first ≤ j → j ≤ last → Has i (part j .left) ⊎ Has i (part j .right) → inRows g part first last (j * g .nx + i) ≡ true
     rows-has a b n =
-        any-at (λ q. inRow g (part q) q (j * g .nx + i)) first (last + 1 - first) j a (omega arith)
+        any-at (λ q. inRow g (part q) q (j * g .nx + i)) first (last + 1) j a (omega arith)
         (⊎-elim
         (λ w. or-left (inSpan (j * g .nx) (part j .left) (j * g .nx + i)) (inSpan (j * g .nx) (part j .right) (j * g .nx + i)) (span-has (j * g .nx) i (part j .left) w))
         (λ w. or-right (inSpan (j * g .nx) (part j .left) (j * g .nx + i)) (inSpan (j * g .nx) (part j .right) (j * g .nx + i)) (span-has (j * g .nx) i (part j .right) w))
@@ -211,7 +132,7 @@ module _ (g : Grid) (part : ℕ → Crescent) (first last : ℕ) (parts : (j : �
 
     rows-lack : (first ≤ j → j ≤ last → Has i (part j .left) ⊎ Has i (part j .right) → ⊥) → inRows g part first last (j * g .nx + i) ≡ false
     rows-lack f =
-        any-none (λ q. inRow g (part q) q (j * g .nx + i)) first (last + 1 - first)
+        any-none (λ q. inRow g (part q) q (j * g .nx + i)) first (last + 1)
         (λ q l m. or-none (inSpan (q * g .nx) (part q .left) (j * g .nx + i)) (inSpan (q * g .nx) (part q .right) (j * g .nx + i))
         (span-lacks (g .nx) j q i (part q .left) (parts q .0) h
         (λ e w. f (omega (arith, e, l)) (omega (arith, e, l, m)) (inl (subst (λ (y : ℕ). Has i (part y .left)) (sym e) w))))
@@ -303,49 +224,45 @@ module _ (g : Grid) (sides : Sides g) where
   module _ (c : Vec2) (r : Float) (m : List ℕ) where
     -- a cell of the disk is cleared
     pub disk-clears : (i j : ℕ) → i < g .nx → InDisk g c r i j → getD (overDisk wipeCell g c r m) (j * g .nx + i) 0 ≡ off (getD m (j * g .nx + i) 0)
-    unfolding Clears
     disk-clears i j h n =
         clears-disk g c r m (j * g .nx + i)
-        ∙ ap (λ (b : Bool). pick b (getD m (j * g .nx + i) 0))
+        ∙ ap (λ (b : Bool). pick off b (getD m (j * g .nx + i) 0))
         (rows-has g (λ j. two (diskRow g c r j) Empty) (rowsOf g c r .0) (rowsOf g c r .1) (disk-parts c r) i j h (n .first) (n .last) (inl (n .column)))
 
     -- any other is as it was
     pub disk-keeps : (i j : ℕ) → i < g .nx → (InDisk g c r i j → ⊥) → getD (overDisk wipeCell g c r m) (j * g .nx + i) 0 ≡ getD m (j * g .nx + i) 0
-    unfolding Clears
     disk-keeps i j h f =
         clears-disk g c r m (j * g .nx + i)
-        ∙ ap (λ (b : Bool). pick b (getD m (j * g .nx + i) 0))
+        ∙ ap (λ (b : Bool). pick off b (getD m (j * g .nx + i) 0))
         (rows-lack g (λ j. two (diskRow g c r j) Empty) (rowsOf g c r .0) (rowsOf g c r .1) (disk-parts c r) i j h
         (λ a b n. ⊎-elim (λ w. f (record { first = a; last = b; column = w })) (λ w. absurd w) n))
 
     -- so is all beyond the grid
     pub disk-beyond : (k : ℕ) → g .ny * g .nx ≤ k → getD (overDisk wipeCell g c r m) k 0 ≡ getD m k 0
-    unfolding Clears
     disk-beyond k l =
         clears-disk g c r m k
-        ∙ ap (λ (b : Bool). pick b (getD m k 0))
+        ∙ ap (λ (b : Bool). pick off b (getD m k 0))
         (rows-beyond g (λ j. two (diskRow g c r j) Empty) (rowsOf g c r .0) (rowsOf g c r .1) (disk-parts c r) (rows-below g c r (sides .high)) k l)
 
     module _ (prev : Vec2) where
       pub crescent-clears : (i j : ℕ) → i < g .nx → InCrescent g prev c r i j → getD (overCrescent wipeCell g prev c r m) (j * g .nx + i) 0 ≡ off (getD m (j * g .nx + i) 0)
-      unfolding Clears crescentRow
+      unfolding crescentRow
       crescent-clears i j h n =
           clears-crescent g prev c r m (j * g .nx + i)
-          ∙ ap (λ (b : Bool). pick b (getD m (j * g .nx + i) 0))
+          ∙ ap (λ (b : Bool). pick off b (getD m (j * g .nx + i) 0))
           (rows-has g (crescentRow g prev c r) (rowsOf g c r .0) (rowsOf g c r .1) (λ j. crescent-in g prev c r j sides) i j h (n .here .first) (n .here .last)
           (has-less i (diskRow g c r j) (diskRow g prev r j) (n .here .column) (n .there)))
 
       pub crescent-keeps : (i j : ℕ) → i < g .nx → (InCrescent g prev c r i j → ⊥) → getD (overCrescent wipeCell g prev c r m) (j * g .nx + i) 0 ≡ getD m (j * g .nx + i) 0
-      unfolding Clears crescentRow
+      unfolding crescentRow
       crescent-keeps i j h f =
           clears-crescent g prev c r m (j * g .nx + i)
-          ∙ ap (λ (b : Bool). pick b (getD m (j * g .nx + i) 0))
+          ∙ ap (λ (b : Bool). pick off b (getD m (j * g .nx + i) 0))
           (rows-lack g (crescentRow g prev c r) (rowsOf g c r .0) (rowsOf g c r .1) (λ j. crescent-in g prev c r j sides) i j h
           (λ a b n. let w = less-has i (diskRow g c r j) (diskRow g prev r j) n in f (record { here = record { first = a; last = b; column = w .0 }; there = w .1 })))
 
       pub crescent-beyond : (k : ℕ) → g .ny * g .nx ≤ k → getD (overCrescent wipeCell g prev c r m) k 0 ≡ getD m k 0
-      unfolding Clears
       crescent-beyond k l =
           clears-crescent g prev c r m k
-          ∙ ap (λ (b : Bool). pick b (getD m k 0))
+          ∙ ap (λ (b : Bool). pick off b (getD m k 0))
           (rows-beyond g (crescentRow g prev c r) (rowsOf g c r .0) (rowsOf g c r .1) (λ j. crescent-in g prev c r j sides) (rows-below g c r (sides .high)) k l)

@@ -71,7 +71,7 @@ set-long n k m h = length-set m k 1 ∙ h
 pub run-long : (a e : ℕ) (m : List ℕ) → length (loop setCell a e m) ≡ length m
 run-long a e m = keep-run setCell (λ (l : List ℕ). length l ≡ length m) (set-long (length m)) a e m refl
 
-pair-long : (g : Grid) (j : ℕ) (xs : List Float) (n p : ℕ) (m : List ℕ) → length m ≡ n → length (fillPair g j xs p m) ≡ n
+pub pair-long : (g : Grid) (j : ℕ) (xs : List Float) (n p : ℕ) (m : List ℕ) → length m ≡ n → length (fillPair g j xs p m) ≡ n
 unfolding fillPair
 pair-long g j xs n p m h = keep-span setCell (λ (l : List ℕ). length l ≡ n) (set-long n) (j * g .nx) (pairAt g xs p) m h
 

@@ -7,6 +7,8 @@ pub mod StockLaws
 pub mod LogLaws
 pub mod ContactLaws
 pub mod RunLaws
+pub mod PaintLaws
 pub mod ClearLaws
 pub mod SortLaws
 pub mod FillLaws
+pub mod FilledLaws
