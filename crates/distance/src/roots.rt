@@ -11,7 +11,10 @@ pub fn distance_of(square: u32) -> f64
     if square == FAR {
         return f64::from_bits(0x7ff0_0000_0000_0000);
     }
-    numbers::root::sqrt(std::num::nearest_u64_to_f64(square as u64))
+    if square == 0 {
+        return 0.0;
+    }
+    numbers::root::whole_root(square as u64)
 }
 
 // The distances of the first n squares.

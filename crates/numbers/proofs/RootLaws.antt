@@ -4,24 +4,27 @@ use mathlib.Core.Path.{_≡_, refl, sym, ap, _∙_, subst}
 use mathlib.Core.Logic.{inl, inr}
 use mathlib.Core.Bool.{Bool, true, false, not, _&&_, _||_, cond, true≢false}
 use Prim.Native.Nat.{ℕ, zero, suc, _+_, _-_, _*_, _/_, _%_, _^_, _≤_, _<_, zero-le}
-use native.Mathlib.Nat.{le-trans, le-of-eq, le-of-lt, lt-of-lt-of-le, lt-of-le-of-lt, lt-irrefl, lt-of-not-le, not-le-of-lt, zero-lt-suc, le-add-right, mul-comm, mul-assoc, mul-left-comm, mul-right-comm, mul-mul-mul-comm, mul-add, add-mul, mul-pos, mul-le-mul, mul-le-mul-right, mul-le-mul-left, mul-lt-mul-of-pos-right, eq-or-lt-of-le, mul-div-cancel, div-lt-iff-lt-mul, pow-suc, pow-succ', mul-mod-left}
+use native.Mathlib.Nat.{le-trans, le-of-eq, le-of-lt, lt-of-lt-of-le, lt-of-le-of-lt, lt-irrefl, lt-of-not-le, not-le-of-lt, zero-lt-suc, le-add-right, mul-one, mul-comm, mul-assoc, mul-left-comm, mul-right-comm, mul-mul-mul-comm, mul-add, add-mul, mul-pos, mul-le-mul, mul-le-mul-right, mul-le-mul-left, mul-lt-mul-of-pos-right, eq-or-lt-of-le, mul-div-cancel, div-lt-iff-lt-mul, pow-suc, pow-succ', mul-mod-left}
 use native.Mathlib.Omega.{arith}
 use native.Mathlib.Decide.{decLt, decLe}
-use lib.Dec.{T, leb, ltb, eqb, lit≤}
+use lib.Dec.{T, leb, ltb, eqb, lit≤, lit<}
 use lib.Pow.{pow-add, pow-pos, pow-mono}
 use lib.Ieee.Digits.{size-lt}
-use lib.Ieee.{Float, nan, inf, fin, binary64, up, down, size, units, round, lt, eq, ofBits, nanBits}
+use lib.Ieee.{Float, nan, inf, fin, binary64, up, down, size, units, round, lt, eq, ofInt, ofBits, nanBits}
 use lib.Ieee.Bits.{nanBits-above}
-use lib.Ieee.Fits.{up-pos}
-use lib.Ieee.Positive.{num, den, positive, den-pos}
+use lib.IntN.{pos}
+use lib.Ieee.Fits.{up-pos, ofInt-fits}
+use lib.Ieee.Exact.{HasValue}
+use lib.Ieee.Back.{round-whole}
+use lib.Ieee.Positive.{num, den, positive, den-pos, positive-of-value}
 use borrow.Author.Tests.{leb-true, leb-false, ltb-false, le-leb, lt-leb, le-ltb, lt-ltb, eqb-true, eqb-false, eq-eqb, ne-eqb}
 use Rattle.floats.proofs.RoundLaws.{round-normal, round-bits, closest-is}
-use Rattle.numbers.proofs.PartLaws.{joined}
+use Rattle.numbers.proofs.PartLaws.{joined, normal}
 use Rattle.numbers.proofs.WholeLaws.{nought}
 use Rattle.numbers.proofs.OrderLaws.{zero-equal, not-zero}
 use Rattle.loops.proofs.Cases.{by-cases}
-use Rattle.numbers.specs.Narrow.{Normal}
-use Rattle.numbers.specs.Root.{stepRoot, rootIn, rootOfNat, sticky, rootOf, NearRoot}
+use Rattle.numbers.specs.Narrow.{Normal, Shifted}
+use Rattle.numbers.specs.Root.{stepRoot, rootIn, rootOfNat, sticky, rootOf, NearRoot, Digits, RootFrom}
 
 -- ---- squares
 sq-mono : {a b : ℕ} → a ≤ b → a * a ≤ b * b
@@ -382,7 +385,11 @@ module _ (x : Float) (m e c g q : ℕ) (P : T (positive x)) (Y : Normal x m e) (
       at (fin false zero e) p = absurd p
       at (fin false (suc m) e) p = refl
 
--- what `root_up` cites: the result's pattern
+-- a number times a remainder by 2 is at most the number
+pub at-most : (d e : ℕ) → d * (e % 2) ≤ d
+at-most d e = le-trans (mul-le-mul-left d (let h : e % 2 ≤ 1 = omega arith in h)) (le-of-eq (mul-one d))
+
+-- what `root_from` cites: the result's pattern
 pub record Result (x : Float) (e q : ℕ) : Type 0 where
   pub few : (e / 2 + 485) * 2 ^ 52 + q < 2047 * 2 ^ 52
   pub is : ofBits binary64 ((e / 2 + 485) * 2 ^ 52 + q) ≡ rootOf x
@@ -408,6 +415,34 @@ result x m e q P Y N = by-cases (eqb (e % 2) 0) (λ h. even (eqb-true (e % 2) 0 
         let C : e + 54 ≡ 55 + (e / 2 + e / 2) = omega arith in
         let M : (m + m * 1) * 2 ^ 54 ≡ m * 2 ^ 55 = omega arith in
         at 55 C (lit≤ tt) (lit≤ tt) (same 1 (m * 2 ^ 55) o M)
+
+-- the pattern is in range
+pub root-few : (m e q : ℕ) → Digits m e → NearRoot ((m + m * (e % 2)) * 2 ^ 54) q → (e / 2 + 485) * 2 ^ 52 + q < 2047 * 2 ^ 52
+root-few m e q D N = go e q (D .few) (sq-le-back (2 * q - 1) (2 ^ 54) _ (N .lo) (room m e (D .hi)))
+  where
+    go : (e q : ℕ) → e < 2200 → 2 * q - 1 < 18014398509481984 → (e / 2 + 485) * 4503599627370496 + q < 2047 * 4503599627370496
+    go e q a b = omega arith
+
+    room : (m e : ℕ) → m < 9007199254740992 → (m + m * (e % 2)) * 18014398509481984 < 18014398509481984 * 18014398509481984
+    room m e h = let k : m * (e % 2) ≤ m = at-most m e in omega arith
+
+-- ---- a whole number as a float
+
+whole-value : (n : ℕ) → n ≤ 2 ^ 53 → HasValue (ofInt binary64 (pos n)) false (n * 2 ^ 1074) (2 ^ 1074)
+unfolding ofInt
+whole-value n h = scaled (round binary64 false n 1) (round-whole binary64 false n h)
+  where
+    scaled : (x : Float) → HasValue x false n 1 → HasValue x false (n * 2 ^ 1074) (2 ^ 1074)
+    scaled nan v = v
+    scaled (inf s) v = v
+    scaled (fin s m e) v =
+        (v .0, ap (λ (z : ℕ). z * 2 ^ 1074) (sym (mul-one (m * up e)) ∙ v .1) ∙ mul-right-comm n (down e) (2 ^ 1074))
+
+pub whole-root-is : (n m e : ℕ) (r : Float) → 0 < n → n < 2 ^ 53 → Shifted n 1074 m e → RootFrom m e r → r ≡ rootOf (ofInt binary64 (pos n))
+whole-root-is n m e r N B S R =
+    let v = whole-value n (le-of-lt B) in
+    let P = positive-of-value (ofInt binary64 (pos n)) (n * 2 ^ 1074) (2 ^ 1074) v (mul-pos N (pow-pos 1074)) in
+    R .is (ofInt binary64 (pos n)) P (normal (ofInt binary64 (pos n)) (ofInt-fits binary64 (pos n)) P n 1074 m e v (lit< tt) S)
 
 -- a pattern below the infinity's is no NaN's
 pub no-nan-bits : (b : ℕ) → b < 2047 * 2 ^ 52 → T (not (nanBits binary64 b))

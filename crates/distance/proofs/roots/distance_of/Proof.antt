@@ -1,7 +1,8 @@
 -- `distance::roots::distance_of` meets its contract. Assumes nothing.
-use mathlib.Core.Path.{ap, _∙_}
+use mathlib.Core.Path.{ap}
+use Prim.Native.Nat.{ℕ}
 use borrow.Author.Tests.{eq-eqb, ne-eqb}
-use lib.Ieee.{nanBits, ofBits}
+use lib.Ieee.{nanBits, ofBits, ofInt, round}
 use Rattle.numbers.specs.Root.{rootOf}
 use Rattle.distance.specs.Least.{far}
 use Rattle.distance.specs.Rooted.{distanceOf}
@@ -17,19 +18,16 @@ returns : tie.Need-returns
 unfolding distanceOf ofBits
 returns c = rw (eq-eqb (c .before .args .square) far (c .if1 .taken))
 
-nearest-u64-to-f64-requires : tie.Need-nearest-u64-to-f64-requires
-nearest-u64-to-f64-requires c κs = search needs
-
-sqrt-requires : tie.Need-sqrt-requires
-sqrt-requires c κs = search needs
-
 returns-2 : tie.Need-returns-2
+unfolding distanceOf rootOf ofInt round ofBits
+returns-2 c = rw (c .if2 .taken)
+
+whole-root-requires : tie.Need-whole-root-requires
+whole-root-requires c κs = search needs
+
+returns-3 : tie.Need-returns-3
 unfolding distanceOf
-returns-2 c =
-    let e = c .sqrt .ensures ∙ ap rootOf (c .before .nearest-u64-to-f64 .ensures) in
-    rw (ne-eqb (c .before .before .before .args .square) far (c .before .before .if1 .left)) e
+returns-3 c = rw (ne-eqb (c .before .before .before .args .square) far (c .before .before .if1 .left)) (c .whole-root .ensures)
 
 pub distance-of-spec : {M : Type 1} → statement M
-distance-of-spec =
-    tie.close
-    (tie.spec float-from-bits-result returns nearest-u64-to-f64-requires sqrt-requires returns-2)
+distance-of-spec = tie.close (tie.spec float-from-bits-result returns returns-2 whole-root-requires returns-3)
