@@ -9,8 +9,11 @@ ghost use Rattle.raster.specs.Grid.{Over, centerOf, cellOf, stockAt};
 ghost use Rattle.raster.specs.Stock.{cl, clearDisk, countDisk, intersection};
 ghost use Rattle.raster.specs.Log.{st, Ready, Logged, clearAfter, undone, redone};
 ghost use Rattle.raster.specs.Contact.{samplesOf, engagementOf};
-ghost use Rattle.abi.specs.Geom.{put2};
+ghost use Rattle.raster.specs.Fill.{fillRegion};
+ghost use Rattle.geom.specs.Region.{Held, vertexCount};
+ghost use Rattle.abi.specs.Geom.{region, put2};
 ghost use Rattle.abi.specs.Raster.{grid, packedCell};
+use geom::region::Region;
 use geom::vec2::Vec2;
 use raster::grid::Found;
 use raster::grid::Grid;
@@ -233,4 +236,34 @@ pub extern "C" fn raster_engagement(
     };
     raster::contact::fill_rim(rim, raster::contact::samples_of(samples));
     raster::contact::engagement(g, map, Vec2 { x, y }, r, rim, samples)
+}
+
+#[no_mangle]
+pub extern "C" fn raster_fill_region(
+    ox: f64,
+    oy: f64,
+    cell: f64,
+    nx: usize,
+    ny: usize,
+    map: &mut [u8],
+    vs: &[f64],
+    lens: &[u32],
+    at: usize,
+    first: usize,
+    loops: usize,
+    xs: &mut [f64],
+)
+    requires { ⌜ Over (grid ox oy cell nx ny) (length (now map)) ⌝ }
+    requires { ⌜ Held (now vs) (now lens) (region at first loops) ⌝ }
+    requires { ⌜ vertexCount (now lens) (region at first loops) ≤ length (now xs) ⌝ }
+    ensures { λ _. ⌜ now (map .exit) ≡ fillRegion (grid ox oy cell nx ny) (now (vs .entry)) (now (lens .entry)) (region at first loops) (now (map .entry)) ⌝ }
+{
+    let origin = Vec2 { x: ox, y: oy };
+    let g = Grid {
+        origin,
+        cell,
+        nx,
+        ny,
+    };
+    raster::fill::fill_region(g, map, vs, lens, Region { at, first, loops }, xs);
 }
