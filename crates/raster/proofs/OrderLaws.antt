@@ -1,16 +1,16 @@
 -- Cells are visited in the order of their numbers, each once: so a crescent's log ascends, and a disk counts the stock cells that clearing it removes.
 -- Assumes nothing.
-use mathlib.Core.Path.{_≡_, refl, sym, ap, _∙_, subst}
-use mathlib.Core.Bool.{Bool, true, false, cond, _&&_, _||_}
+use mathlib.Core.Path.{_≡_, refl, sym, ap, _∙_}
+use mathlib.Core.Bool.{Bool, true, false, _&&_, _||_}
 use mathlib.Core.List.{List}
-use Prim.Native.Nat.{ℕ, zero, suc, _+_, _-_, _*_, _^_, _≤_, _<_, min}
+use Prim.Native.Nat.{ℕ, zero, suc, _+_, _-_, _*_, _≤_, _<_, min}
 use native.Mathlib.Nat.{add-mul, mul-le-mul-right}
 use native.Mathlib.Omega.{arith}
-use lib.ListN.{length, getD, set}
+use lib.ListN.{getD}
 use lib.Seq.{getD-set-same, getD-set-other}
-use lib.Dec.{eqb, ltb, leb, lit≤}
-use lib.Ieee.{Float, binary64, prec, sub, add, mul, lt, le, isNan, toUnsigned}
-use borrow.Author.Tests.{eqb-true, eqb-false, ltb-true, ltb-false, leb-true}
+use lib.Dec.{eqb, ltb, leb}
+use lib.Ieee.{Float, binary64, sub, add, mul, lt, le, isNan, toUnsigned}
+use borrow.Author.Tests.{eqb-true, eqb-false, ltb-true, ltb-false}
 use Rattle.loops.specs.Loop.{turns, loop}
 use Rattle.loops.specs.Cells.{bit, ones}
 use Rattle.loops.proofs.Cases.{by-cases, by-test, never}
@@ -23,7 +23,7 @@ use Rattle.floats.proofs.IndexLaws.{cut-mono}
 use Rattle.raster.specs.Grid.{Sides, float}
 use Rattle.raster.specs.Disk.{rowY, cellAt, firstFrom, colsOf, diskRow, crescentRow, rowsOf, leftOf, rightOf, less, two}
 use Rattle.raster.specs.Sweep.{overSpan, diskAt, overDisk, crescentAt, overCrescent}
-use Rattle.raster.specs.Stock.{Cleared, cl, dropped, dropCell, clearDisk, tally, countDisk}
+use Rattle.raster.specs.Stock.{Cleared, cl, dropCell, clearDisk, tally, countDisk}
 use Rattle.raster.specs.Log.{Stock, Ready, taken, clearCell, clearAfter}
 use Rattle.raster.specs.declared.grid.Grid.{Grid}
 use Rattle.raster.specs.declared.disk.Crescent.{Crescent}
@@ -31,7 +31,7 @@ use Rattle.raster.specs.declared.disk.Span.{Span}
 use Rattle.raster.specs.declared.disk.Span.the-variants.{Empty, Cols}
 use Rattle.raster.proofs.RowLaws.{InRow, first-number, first-below, or-last, disk-in, crescent-in}
 use Rattle.raster.proofs.SweepLaws.{disk-image}
-use Rattle.raster.proofs.StockLaws.{bit-one, bit-none, drop-cases, clear-disk-removed}
+use Rattle.raster.proofs.StockLaws.{bit-one, bit-none, clear-disk-removed}
 use Rattle.raster.proofs.LogLaws.{cell-cases, Kept, kept-none, kept-taken, room-left}
 
 -- ---- what holds of the cells below k

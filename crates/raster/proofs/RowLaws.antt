@@ -11,7 +11,7 @@ use Rattle.numbers.specs.Whole.{floorOf, ceilOf}
 use Rattle.numbers.specs.Root.{rootOf}
 use Rattle.geom.specs.Vec.{f0}
 use Rattle.geom.specs.declared.vec2.Vec2.{Vec2}
-use Rattle.loops.proofs.Cases.{by-test, both, either}
+use Rattle.loops.proofs.Cases.{by-test, both}
 use Rattle.loops.proofs.CellLaws.{row-below}
 use Rattle.floats.proofs.IndexLaws.{index-not-le}
 use Rattle.raster.specs.Grid.{float, Sides}
