@@ -2,22 +2,22 @@
 use mathlib.Core.Path.{_≡_, refl, sym, ap, _∙_, subst}
 use mathlib.Core.Bool.{true, false}
 use mathlib.Core.List.{List}
-use Prim.Native.Nat.{ℕ, zero, suc, _+_, _-_, _*_, _≤_, _<_, max}
-use native.Mathlib.Numerals.{add-one}
+use Prim.Native.Nat.{ℕ, zero, suc, _+_, _*_, _≤_, _<_}
 use native.Mathlib.Omega.{arith}
 use lib.ListN.{length, getD, set, length-set}
 use lib.Seq.{getD-set-same, getD-set-other}
 use lib.Dec.{ltb}
-use lib.Ieee.{Float, nan, binary64, ofBits, add, mul, div}
+use lib.Ieee.{Float, nan}
 use borrow.Author.Tests.{ltb-true, ltb-false}
 use Rattle.loops.specs.Loop.{loop}
 use Rattle.loops.proofs.Cases.{by-cases, by-test}
-use Rattle.loops.proofs.LoopLaws.{loop-keeps, loop-more, loop-none}
-use Rattle.geom.specs.Vec.{v2, sum, scaled, fromAngle}
+use Rattle.loops.proofs.LoopLaws.{loop-keeps, loop-none}
+use Rattle.geom.specs.Vec.{v2, sum, scaled}
 use Rattle.geom.specs.declared.vec2.Vec2.{Vec2}
-use Rattle.raster.specs.Grid.{half, float, stockAt}
-use Rattle.raster.specs.Contact.{tau, samplesOf, directionAt, rimAt, hitAt, hitsOf, angleOf, engagementOf, Rim, putRim, rimmed}
+use Rattle.raster.specs.Grid.{stockAt}
+use Rattle.raster.specs.Contact.{samplesOf, directionAt, rimAt, hitAt, hitsOf, angleOf, engagementOf, Rim, putRim, rimmed}
 use Rattle.raster.specs.declared.grid.Grid.{Grid}
+use Rattle.raster.proofs.SweepLaws.{loop-suc}
 
 -- ---- the table
 
@@ -46,10 +46,6 @@ unfolding putRim
 put-other n k i w h =
     getD-set-other (set w (2 * k) (directionAt n k .x)) (2 * k + 1) i (directionAt n k .y) nan (omega arith)
     ∙ getD-set-other w (2 * k) i (directionAt n k .x) nan (omega arith)
-
--- one more turn of a loop from 0
-loop-suc : {S : Type 0} (f : ℕ → S → S) (e : ℕ) (s : S) → f e (loop f 0 e s) ≡ loop f 0 (suc e) s
-loop-suc f e s = loop-more f 0 e s (omega arith) ∙ ap (λ (i : ℕ). loop f 0 i s) (add-one e)
 
 -- the first e samples are in the table
 record Filled (n e : ℕ) (w : List Float) : Type 0 where

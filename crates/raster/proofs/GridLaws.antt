@@ -3,20 +3,20 @@ use mathlib.Core.Path.{_≡_, refl, sym, ap, _∙_, subst}
 use mathlib.Core.Bool.{Bool, true, false, cond, not, _&&_, _||_}
 use mathlib.Core.List.{List}
 use mathlib.Core.Logic.{_⊎_, inl, inr, ⊎-elim}
-use Prim.Native.Nat.{ℕ, _+_, _-_, _*_, _/_, _%_, _^_, _≤_, _<_}
+use Prim.Native.Nat.{ℕ, _+_, _*_, _/_, _%_, _^_, _≤_, _<_}
 use native.Mathlib.Omega.{arith}
-use lib.ListN.{length, getD}
-use native.Mathlib.Nat.{mul-le-mul-right}
+use lib.ListN.{getD}
+use native.Mathlib.Nat.{mul-le-mul-right, mul-add-mod-self-right, mod-eq-of-lt, div-add-mod'}
 use lib.Dec.{eqb, ltb, leb}
 use borrow.Author.Tests.{lt-ltb, le-ltb, ltb-true, le-leb, lt-leb, leb-true}
 use lib.Ieee.{Float, nan, inf, fin, lt, le, eq, isNan, ofBits, toUnsigned}
 use Rattle.numbers.specs.Order.{isFinite}
 use Rattle.geom.specs.Vec.{v2, f0, difference}
 use Rattle.geom.specs.declared.vec2.Vec2.{Vec2}
-use Rattle.loops.proofs.Cases.{by-cases, by-test, never, both}
-use Rattle.loops.proofs.CellLaws.{row-below}
+use Rattle.loops.proofs.Cases.{by-test, never, both}
+use Rattle.loops.proofs.CellLaws.{row-below, same-row}
 use Rattle.floats.proofs.OrderLaws.{le-not-lt, not-le-lt}
-use Rattle.raster.specs.Grid.{Sides, reachOf, gridOf, sized, newGrid, columnAt, rowAt, astray, onGrid, cellOf, stockIn, stockAt}
+use Rattle.raster.specs.Grid.{Sides, reachOf, gridOf, sized, newGrid, columnAt, rowAt, astray, onGrid, cellOf, stockAt}
 use Rattle.raster.specs.declared.grid.Grid.{Grid}
 use Rattle.raster.specs.declared.grid.Raster.{Raster}
 use Rattle.raster.specs.declared.grid.Raster.the-variants.{TooLarge, Of}
@@ -141,6 +141,14 @@ stock-some g m p f i j k e d h = rw (← e, d, h)
 -- a cell of the grid is one of its cells by number too
 pub number-below : (nx ny i j n : ℕ) → i < nx → j < ny → ny * nx ≤ n → j * nx + i < n
 number-below nx ny i j n h k b = omega (arith, row-below j ny nx n k b)
+
+-- a number gives its column and its row back
+pub column-back : (nx i j : ℕ) → i < nx → (j * nx + i) % nx ≡ i
+column-back nx i j h = mul-add-mod-self-right j nx i ∙ mod-eq-of-lt h
+
+pub row-back : (nx i j : ℕ) → i < nx → (j * nx + i) / nx ≡ j
+row-back nx i j h =
+    sym (same-row nx j ((j * nx + i) / nx) i ((j * nx + i) % nx) h (subst (λ (k : ℕ). k < nx) (sym (column-back nx i j h)) h) (sym (div-add-mod' (j * nx + i) nx)))
 
 -- ---- a grid over bounds
 

@@ -9,6 +9,7 @@ pub mod ContactLaws
 pub mod RunLaws
 pub mod PaintLaws
 pub mod ClearLaws
+pub mod OrderLaws
 pub mod SortLaws
 pub mod FillLaws
 pub mod FilledLaws

@@ -11,7 +11,7 @@ use Rattle.numbers.specs.Whole.{floorOf, ceilOf}
 use Rattle.numbers.specs.Root.{rootOf}
 use Rattle.geom.specs.Vec.{f0}
 use Rattle.geom.specs.declared.vec2.Vec2.{Vec2}
-use Rattle.loops.proofs.Cases.{by-test, both, either}
+use Rattle.loops.proofs.Cases.{by-test, both}
 use Rattle.loops.proofs.CellLaws.{row-below}
 use Rattle.floats.proofs.IndexLaws.{index-not-le}
 use Rattle.raster.specs.Grid.{float, Sides}
@@ -31,20 +31,24 @@ max-number : (x : Float) → isNan (maxOf x f0) ≡ false
 unfolding maxOf ofBits isNan
 max-number x = by-test (λ (y : Float). isNan y ≡ false) (lt x f0) f0 (cond (isNan x) f0 x) (λ t. refl) (λ t. by-test (λ (y : Float). isNan y ≡ false) (isNan x) f0 x (λ u. refl) (λ u. u))
 
-first-number : (x : Float) → isNan (firstFrom x) ≡ false
+pub first-number : (x : Float) → isNan (firstFrom x) ≡ false
 unfolding firstFrom
 first-number x = max-number (ceilOf x)
 
-or-last : (a b c : Bool) → a || (b || c) ≡ false → c ≡ false
+pub or-last : (a b c : Bool) → a || (b || c) ≡ false → c ≡ false
 or-last true b c e = absurd (mathlib.Core.Bool.true≢false e)
 or-last false true c e = absurd (mathlib.Core.Bool.true≢false e)
 or-last false false c e = e
+
+-- a first cell number that is not past the row is a column of it
+pub first-below : (nx : ℕ) (i0 : Float) → 0 < nx → nx ≤ 4096 → isNan i0 ≡ false → le (float nx) i0 ≡ false → toUnsigned 64 i0 < nx
+first-below nx i0 w h q t = index-not-le binary64 64 nx i0 w (let l : 4096 ≤ 2 ^ prec binary64 = lit≤ tt in omega arith) q t
 
 pub cols-in : (i0 i1 : Float) (nx : ℕ) → 0 < nx → nx ≤ 4096 → isNan i0 ≡ false → InRow nx (colsOf i0 i1 nx)
 unfolding colsOf
 cols-in i0 i1 nx w h q =
     by-test (InRow nx) (lt i1 f0 || (lt i1 i0 || le (float nx) i0)) Empty (Cols (toUnsigned 64 i0) (min (toUnsigned 64 i1) (nx - 1))) (λ t. tt)
-    (λ t. (index-not-le binary64 64 nx i0 w (let l : 4096 ≤ 2 ^ prec binary64 = lit≤ tt in omega arith) q (or-last (lt i1 f0) (lt i1 i0) (le (float nx) i0) t), omega arith))
+    (λ t. (first-below nx i0 w h q (or-last (lt i1 f0) (lt i1 i0) (le (float nx) i0) t), omega arith))
 
 pub disk-in : (g : Grid) (c : Vec2) (r : Float) (j : ℕ) → Sides g → InRow (g .nx) (diskRow g c r j)
 unfolding diskRow

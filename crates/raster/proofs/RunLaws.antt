@@ -1,7 +1,6 @@
 -- What a run of crescents with one growing log does: undoing gives the map back, clearing again what the run left, the count is what went, and the log lists
 -- exactly the cells that went, each once. Assumes nothing.
 use mathlib.Core.Path.{_≡_, refl, sym, ap, _∙_}
-use mathlib.Core.Bool.{Bool, true, false}
 use mathlib.Core.Logic.{_⊎_, inl, inr, ⊎-elim}
 use mathlib.Core.List.{List, [], _∷_}
 use Prim.Native.Nat.{ℕ, _+_, _-_, _≤_, _<_, _^_}

@@ -3,7 +3,6 @@ use mathlib.Core.Path.{_≡_, refl, sym, ap, _∙_, subst}
 use mathlib.Core.Bool.{Bool, true, false, not, cond}
 use mathlib.Core.List.{List, [], _∷_}
 use Prim.Native.Nat.{ℕ, zero, suc, _+_, _-_, _≤_, _<_}
-use native.Mathlib.Numerals.{add-one}
 use native.Mathlib.Omega.{arith}
 use lib.ListN.{length, getD, set, length-set}
 use lib.Seq.{getD-set-same, getD-set-other}
@@ -12,9 +11,10 @@ use lib.Ieee.{Float, nan}
 use borrow.Author.Tests.{eqb-true, eqb-false, ltb-true, ltb-false}
 use Rattle.loops.specs.Loop.{loop}
 use Rattle.loops.proofs.Cases.{by-cases, by-test, never}
-use Rattle.loops.proofs.LoopLaws.{loop-keeps, loop-more}
+use Rattle.loops.proofs.LoopLaws.{loop-keeps}
 use Rattle.numbers.specs.Order.{rankOf, totalOf}
 use Rattle.numbers.specs.declared.order.Ordering.{Ordering}
+use Rattle.raster.proofs.SweepLaws.{loop-suc}
 use Rattle.raster.specs.Sort.{isLess, precedes, swapped, sunk, sortedOf}
 
 pub precedes-is : (a b : Float) (o p : Ordering) → o ≡ totalOf a b → o ≡ p → isLess p ≡ precedes a b
@@ -165,7 +165,7 @@ orders : (e : ℕ) (xs : List Float) → e ≤ length xs → Ordered (loop sunk 
 orders zero xs h = record { up = λ a b l m. absurd (let z : ⊥ = omega arith in z) }
 orders (suc e) xs h =
     let o = orders e xs (omega arith) in
-    subst (λ (ys : List Float). Ordered ys (suc e)) (loop-more sunk 0 e xs (omega arith) ∙ ap (λ (i : ℕ). loop sunk 0 i xs) (add-one e))
+    subst (λ (ys : List Float). Ordered ys (suc e)) (loop-suc sunk e xs)
     (sunk-orders e (suc e) (loop sunk 0 e xs) (omega arith) (omega (arith, sorting-long 0 e xs)) (record {
       others = λ a b l m p q. o .up a b l (omega (arith, q));
       after = λ b l m. absurd (let z : ⊥ = omega arith in z);

@@ -1,6 +1,5 @@
 -- Counting and clearing on the map: what is removed is what is stock no more. Assumes nothing.
 use mathlib.Core.Path.{_≡_, refl, sym, ap, _∙_, subst}
-use mathlib.Core.Bool.{Bool, true, false, cond}
 use mathlib.Core.List.{List, [], _∷_}
 use Prim.Native.Nat.{ℕ, zero, suc, _+_, _-_, _*_, _≤_, _<_}
 use native.Mathlib.Omega.{arith}
@@ -13,17 +12,17 @@ use lib.Ieee.{Float}
 use borrow.Author.Tests.{eqb-true, eq-eqb, ne-eqb}
 use Rattle.loops.specs.Loop.{turns, loop}
 use Rattle.loops.specs.Cells.{bit, ones}
-use Rattle.loops.proofs.Cases.{by-cases, by-test}
+use Rattle.loops.proofs.Cases.{by-test}
 use Rattle.loops.proofs.CellLaws.{ones-set, ones-le}
 use Rattle.loops.proofs.LoopLaws.{Going, loop-keeps}
 use Rattle.geom.specs.declared.vec2.Vec2.{Vec2}
 use Rattle.raster.specs.Sweep.{overSpan, diskAt}
-use Rattle.raster.specs.Stock.{Cleared, cl, dropped, dropCell, clearDisk, Fair, tally, keepCell, intersection}
+use Rattle.raster.specs.Stock.{Cleared, cl, dropped, dropCell, clearDisk, Fair, tally, keepCell}
 use Rattle.raster.specs.declared.grid.Grid.{Grid}
 use Rattle.raster.specs.declared.disk.Span.{Span}
 use Rattle.raster.specs.declared.disk.Span.the-variants.{Empty, Cols}
 use Rattle.raster.proofs.RowLaws.{InRow}
-use Rattle.raster.proofs.SweepLaws.{keep-run, keep-span, keep-disk-rows, keep-disk}
+use Rattle.raster.proofs.SweepLaws.{keep-run, keep-disk-rows, keep-disk}
 
 -- ---- counting
 

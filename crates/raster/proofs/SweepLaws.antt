@@ -1,10 +1,11 @@
 -- Turns over the cells of a span, a disk and a crescent: what each turn keeps, they keep, and what each shows of the state, they show. Assumes nothing.
-use mathlib.Core.Path.{_≡_, refl, sym, ap, _∙_, subst}
-use Prim.Native.Nat.{ℕ, zero, suc, _+_, _-_, _*_, _≤_, _<_}
+use mathlib.Core.Path.{_≡_, refl, ap, _∙_, subst}
+use Prim.Native.Nat.{ℕ, zero, suc, _+_, _-_, _*_, _<_}
+use native.Mathlib.Numerals.{add-one}
 use native.Mathlib.Omega.{arith}
 use lib.Ieee.{Float}
 use Rattle.loops.specs.Loop.{turns, loop}
-use Rattle.loops.proofs.LoopLaws.{loop-keeps}
+use Rattle.loops.proofs.LoopLaws.{loop-more, loop-keeps}
 use Rattle.geom.specs.declared.vec2.Vec2.{Vec2}
 use Rattle.raster.specs.Disk.{diskRow, crescentRow, rowsOf}
 use Rattle.raster.specs.Sweep.{overSpan, diskAt, overDisk, crescentAt, overCrescent, Inside}
@@ -13,6 +14,10 @@ use Rattle.raster.specs.declared.disk.Crescent.{Crescent}
 use Rattle.raster.specs.declared.disk.Rows.{Rows}
 use Rattle.raster.specs.declared.disk.Span.{Span}
 use Rattle.raster.specs.declared.disk.Span.the-variants.{Empty, Cols}
+
+-- one more turn of a loop from 0
+pub loop-suc : {S : Type 0} (f : ℕ → S → S) (e : ℕ) (s : S) → f e (loop f 0 e s) ≡ loop f 0 (suc e) s
+loop-suc f e s = loop-more f 0 e s (omega arith) ∙ ap (λ (i : ℕ). loop f 0 i s) (add-one e)
 
 -- ---- what each turn keeps
 

@@ -1,6 +1,6 @@
 -- The cells of a row whose centres lie in a disk, the rows that a disk can reach, and the row of a crescent: the arithmetic of raster.rs, operation by operation. Definitions only.
-use Prim.Native.Nat.{ℕ, _+_, _-_, _*_, min}
-use mathlib.Core.Bool.{Bool, true, false, cond, _&&_, _||_}
+use Prim.Native.Nat.{ℕ, _+_, _-_, min}
+use mathlib.Core.Bool.{cond, _&&_, _||_}
 use lib.Dec.{ltb, leb}
 use lib.Ieee.{Float, binary64, toUnsigned, add, sub, mul, div, lt, le}
 use Rattle.numbers.specs.Order.{maxOf}

@@ -2,11 +2,10 @@
 use mathlib.Core.Path.{_≡_, ap, _∙_}
 use Prim.Native.Nat.{_-_, _+_, _*_, _<_}
 use native.Mathlib.Omega.{arith}
-use lib.ListN.{length, set, length-set}
+use lib.ListN.{length, length-set}
 use borrow.Author.Needs.{needs}
 use Rattle.loops.proofs.LoopLaws.{Going, going-none, going-more, going-end}
-use Rattle.geom.specs.declared.vec2.Vec2.{Vec2}
-use Rattle.raster.specs.Contact.{directionAt, putRim, rimmed}
+use Rattle.raster.specs.Contact.{putRim, rimmed}
 use Rattle.raster.proofs.ContactLaws.{rim-long, rim-is, put-is}
 use Rattle.raster.proofs.contact.fill_rim.Statement.{statement}
 use Rattle.raster.proofs.contact.fill_rim.Tie as tie

@@ -1,6 +1,6 @@
 -- `raster::fill::fill_row` meets its contract. The invariant: the map is what the pairs so far leave. Assumes nothing.
 use mathlib.Core.Path.{_≡_, sym, ap, _∙_, subst}
-use Prim.Native.Nat.{_-_, _+_, _*_, _/_, _≤_, _<_}
+use Prim.Native.Nat.{_-_, _+_, _*_, _/_, _<_}
 use native.Mathlib.Omega.{arith}
 use lib.ListN.{length}
 use borrow.Author.Needs.{needs}

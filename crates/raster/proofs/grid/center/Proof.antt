@@ -1,5 +1,4 @@
 -- `raster::grid::center` meets its contract. Assumes nothing.
-use Rattle.geom.specs.Vec.{sum}
 use Rattle.raster.specs.Grid.{centerOf}
 use borrow.Author.Needs.{needs}
 use Rattle.raster.proofs.grid.center.Statement.{statement}

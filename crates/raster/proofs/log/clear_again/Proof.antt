@@ -1,5 +1,5 @@
 -- `raster::log::clear_again` meets its contract. The invariant: the map is what the entries so far leave. Assumes nothing.
-use mathlib.Core.Path.{_≡_, refl, ap, _∙_}
+use mathlib.Core.Path.{_≡_, ap, _∙_}
 use Prim.Native.Nat.{ℕ, _-_}
 use native.Mathlib.Omega.{arith}
 use lib.ListN.{length, set}

@@ -1,11 +1,9 @@
 -- `raster::stock::drop_run` meets its contract. The invariant: the map and the count are what the turns so far leave. Assumes nothing.
 use mathlib.Core.Path.{_∙_}
 use mathlib.Core.Logic.{⊎-elim}
-use Prim.Native.Nat.{_-_, _≤_}
+use Prim.Native.Nat.{_-_}
 use native.Mathlib.Omega.{arith}
-use lib.ListN.{length}
 use Rattle.loops.proofs.LoopLaws.{Going, going-none, going-more, going-end}
-use Rattle.loops.proofs.CellLaws.{ones-set}
 use Rattle.raster.specs.Stock.{cl, dropCell}
 use Rattle.raster.proofs.StockLaws.{Left, going-left, fair-left, drop-taken, drop-passed, cl-eq}
 use Rattle.raster.proofs.stock.drop_run.Statement.{statement}
