@@ -113,7 +113,8 @@ impl Lent {
         unsafe { linked::geom_point_in_loop(self.vs.as_ptr(), self.vs.len(), at, n, p.x, p.y) }
     }
 
-    fn held(&self) {
+    /// The lengths and vertices of the region are lent.
+    pub fn held(&self) {
         assert!(self.loops > 0 && self.first + self.loops <= self.lens.len());
         let n: usize = self.lens[self.first..self.first + self.loops].iter().map(|&n| n as usize).sum();
         assert!(2 * (self.at + n) <= self.vs.len());

@@ -1,4 +1,5 @@
 //! The functions of the layer `raster`, with what they require as assertions.
+use crate::geom::Lent;
 use oracle::vec2::{Vec2, v2};
 
 mod linked {
@@ -82,6 +83,24 @@ mod linked {
             rim: *mut f64,
             rim_len: usize,
         ) -> f64;
+        pub fn raster_fill_region(
+            ox: f64,
+            oy: f64,
+            cell: f64,
+            nx: usize,
+            ny: usize,
+            map: *mut u8,
+            map_len: usize,
+            vs: *const f64,
+            vs_len: usize,
+            lens: *const u32,
+            lens_len: usize,
+            at: usize,
+            first: usize,
+            loops: usize,
+            xs: *mut f64,
+            xs_len: usize,
+        );
     }
 }
 
@@ -196,6 +215,32 @@ impl Stock {
         self.logged();
         let (m, l) = (&mut self.map, &self.log);
         unsafe { linked::raster_clear_again(m.as_mut_ptr(), m.len(), l.as_ptr(), l.len(), self.count) };
+    }
+
+    pub fn fill_region(&mut self, lent: &Lent) {
+        lent.held();
+        let (o, m) = (self.origin, &mut self.map);
+        let mut xs = vec![0.0; lent.vs.len() / 2];
+        unsafe {
+            linked::raster_fill_region(
+                o.x,
+                o.y,
+                self.cell,
+                self.nx,
+                self.ny,
+                m.as_mut_ptr(),
+                m.len(),
+                lent.vs.as_ptr(),
+                lent.vs.len(),
+                lent.lens.as_ptr(),
+                lent.lens.len(),
+                lent.at,
+                lent.first,
+                lent.loops,
+                xs.as_mut_ptr(),
+                xs.len(),
+            );
+        }
     }
 
     pub fn engagement(&self, c: Vec2, r: f64, samples: usize) -> f64 {

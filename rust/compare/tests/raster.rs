@@ -1,8 +1,10 @@
 //! The proved stock map against the published one, on random grids, points on edges and off the grid, and
 //! radii from 0 to beyond the map: results, every cell and the log.
 use compare::bits::Bits;
+use compare::geom::Lent;
 use compare::raster::Stock;
 use oracle::generate::Rng;
+use oracle::geom::Region;
 use oracle::raster::Grid;
 use oracle::vec2::{Vec2, v2};
 
@@ -123,6 +125,19 @@ fn contact() {
             let want = grid.engagement_printed(c, rad, samples);
             assert_eq!(stock.engagement(c, rad, samples).bits(), want.bits(), "{c:?} {rad} {samples}");
         }
+    });
+}
+
+/// Regions around, over and off the grid, with corners on rows and columns of centres, and overlapping
+/// islands.
+#[test]
+fn regions_filled() {
+    each(37, CALLS, |r, mut stock, mut grid| {
+        let ring = |r: &mut Rng| (0..3 + r.below(6)).map(|_| point(r, &grid)).collect::<Vec<_>>();
+        let region = Region { outer: ring(r), islands: (0..r.below(3)).map(|_| ring(r)).collect() };
+        stock.fill_region(&Lent::new(&region, r.below(3) as usize, r.below(3) as usize));
+        grid.fill_region(&region, true);
+        same_map(&stock, &grid);
     });
 }
 
