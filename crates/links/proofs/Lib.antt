@@ -1,0 +1,4 @@
+pub mod OrderLaws
+pub mod OpenLaws
+pub mod SiftLaws
+pub mod HoldLaws
