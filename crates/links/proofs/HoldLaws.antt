@@ -22,7 +22,8 @@ refuted : (b : Bool) → T b → not b ≡ false
 refuted true h = refl
 refuted false h = absurd h
 
--- n entries are held, and none where n is 0
+-- ---- the empty heap, and how many a heap holds
+
 pub holds-length : {l : List Entry} {ests : List Float} {nodes : List ℕ} {n : ℕ} → Holds l ests nodes n → length l ≡ n
 holds-length {l} {ests} {nodes} {n} h = sym (count-all l) ∙ sym (h .same (λ (e : Entry). true)) ∙ to-all (entryAt ests nodes) n
 
@@ -34,6 +35,16 @@ holds-none ests nodes = record {
   ordered = record { order = λ i a l. absurd (let z : ⊥ = omega arith in z) };
   same = λ p. refl;
 }
+
+pub holds-empty : (l : List Entry) (ests : List Float) (nodes : List ℕ) (n : ℕ) → Holds l ests nodes n → n ≡ 0 → l ≡ []
+holds-empty [] ests nodes n h z = refl
+holds-empty (e ∷ l) ests nodes n h z = absurd (let d : ⊥ = omega (arith, holds-length h) in d)
+
+pub holds-first : {A : Type 0} (l : List Entry) (ests : List Float) (nodes : List ℕ) (n : ℕ) → Holds l ests nodes n → 0 < n → ((e : Entry) (r : List Entry) → l ≡ e ∷ r → A) → A
+holds-first [] ests nodes n h p f = absurd (let d : ⊥ = omega (arith, holds-length h) in d)
+holds-first (e ∷ r) ests nodes n h p f = f e r refl
+
+-- ---- one more, and one less
 
 module _ (ests : List Float) (nodes : List ℕ) where
   pub pushed : (n : ℕ) (e : Entry) (ests′ : List Float) (nodes′ : List ℕ) (k : ℕ)

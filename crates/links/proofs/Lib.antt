@@ -1,3 +1,4 @@
+pub mod RankLaws
 pub mod OrderLaws
 pub mod OpenLaws
 pub mod SiftLaws

@@ -4,7 +4,7 @@ use mathlib.Core.Bool.{Bool, true, false, cond}
 use Prim.Native.Nat.{ℕ, _≤_, _<_}
 use native.Mathlib.Omega.{arith}
 use lib.Dec.{T, ltb}
-use lib.Ieee.{Float, binary64, fits}
+use lib.Ieee.{Float, binary64, fits, lt}
 use borrow.Author.Tests.{ltb-true, ltb-false, lt-ltb, le-ltb}
 use Rattle.loops.proofs.Cases.{by-cases, never}
 use Rattle.numbers.specs.Order.{rankOf, totalOf}
@@ -13,6 +13,7 @@ use Rattle.numbers.proofs.OrderLaws.{rank-one}
 use Rattle.links.specs.declared.NodeNo.{NodeNo}
 use Rattle.links.specs.declared.heap.Entry.{Entry}
 use Rattle.links.specs.Heap.{beforeOf, settled}
+use Rattle.links.proofs.RankLaws.{rank-lt}
 
 abbrev entryOf : Float → ℕ → Entry
 entryOf x v = record { est = x; node = record { 0 = v } }
@@ -28,9 +29,6 @@ lex-is a b = by-cases (ltb (rankOf (a .est)) (rankOf (b .est))) (λ p. rw p) (λ
 module _ (r v s w : ℕ) where
   lex-less : r < s → lex r v s w ≡ true
   lex-less h = rw (lt-ltb r s h)
-
-  lex-even : r ≡ s → v < w → lex r v s w ≡ true
-  lex-even h k = rw (le-ltb r s (omega arith), le-ltb s r (omega arith), lt-ltb v w k)
 
   -- what a yes and a no say
   lex-yes : {A : Type 0} → lex r v s w ≡ true → (r < s → A) → (r ≡ s → v < w → A) → A
@@ -93,3 +91,10 @@ one-entry a b f g p q = go (rankOf (a .est)) (a .node .0) (rankOf (b .est)) (b .
 pub before-by : (a b : Entry) (o : Ordering) → o ≡ totalOf (a .est) (b .est) → settled o (ltb (a .node .0) (b .node .0)) ≡ beforeOf a b
 unfolding beforeOf
 before-by a b o e = ap (λ (x : Ordering). settled x (ltb (a .node .0) (b .node .0))) e
+
+module _ (a b : Entry) (p : T (fits binary64 (a .est))) (q : T (fits binary64 (b .est))) where
+  pub before-less : lt (a .est) (b .est) ≡ true → true ≡ beforeOf a b
+  before-less h = sym (lex-is a b ∙ lex-less (rankOf (a .est)) (a .node .0) (rankOf (b .est)) (b .node .0) (rank-lt (a .est) (b .est) p q h))
+
+  pub before-greater : lt (b .est) (a .est) ≡ true → false ≡ beforeOf a b
+  before-greater h = sym (lex-is a b ∙ lex-above (rankOf (a .est)) (a .node .0) (rankOf (b .est)) (b .node .0) (rank-lt (b .est) (a .est) q p h))

@@ -15,6 +15,13 @@ pub struct Entry {
 pub fn before(a: Entry, b: Entry) -> bool
     ensures { λ r. ⌜ r ≡ beforeOf a b ⌝ }
 {
+    if a.est < b.est {
+        return true;
+    }
+    if b.est < a.est {
+        return false;
+    }
+    // Equal, or zeros of unlike sign, or a NaN.
     let o = numbers::order::total_cmp(a.est, b.est);
     match o {
         Ordering::Less => true,
@@ -119,12 +126,12 @@ pub fn pop(ests: &mut [f64], nodes: &mut [u32], n: usize) -> Entry
         node: NodeNo(nodes[0]),
     };
     let m = n - 1;
-    let e = Entry {
+    let last = Entry {
         est: ests[m],
         node: NodeNo(nodes[m]),
     };
-    let k = sink(ests, nodes, m, e);
-    ests[k] = e.est;
-    nodes[k] = e.node.0;
+    let k = sink(ests, nodes, m, last);
+    ests[k] = last.est;
+    nodes[k] = last.node.0;
     first
 }
