@@ -1,3 +1,4 @@
 // The functions of the layers under C names, for the comparison with the Rust (rust/compare). What a
 // station links is another crate.
+pub mod of_links;
 pub mod of_numbers;
