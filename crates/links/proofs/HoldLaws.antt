@@ -1,26 +1,18 @@
--- What slices hold: `push` adds to it, `pop` takes its first, and it is empty where n is 0. Assumes nothing.
-use mathlib.Core.Path.{_≡_, refl, sym, ap, _∙_, subst}
-use mathlib.Core.Bool.{Bool, true, false, not}
+-- What slices hold: every heap holds one list, `push` adds to it, `pop` takes its first, and it is empty where n is 0. Assumes nothing.
+use mathlib.Core.Path.{_≡_, refl, sym, ap, _∙_}
+use mathlib.Core.Bool.{Bool, true}
 use mathlib.Core.List.{List, [], _∷_}
 use Prim.Native.Nat.{ℕ, zero, suc, _+_, _-_, _≤_, _<_}
 use native.Mathlib.Omega.{arith}
 use lib.Dec.{T}
 use lib.ListN.{length, getD, set}
 use lib.Ieee.{Float, nan, binary64, fits}
-use borrow.Author.Tests.{not-false}
 use Rattle.links.specs.declared.heap.Entry.{Entry}
-use Rattle.links.specs.Heap.{beforeOf, insert, one, count, countTo, Sorted, none, entryAt, Lent, Holds, Kept, Pushed, Popped}
+use Rattle.links.specs.Heap.{beforeOf, insert, one, count, countTo, Sorted, none, Ordered, entryAt, Lent, Holds, Pushed, Popped}
 use Rattle.links.specs.Sift.{Risen, Sunk}
 use Rattle.links.proofs.OrderLaws.{one-entry}
-use Rattle.links.proofs.OpenLaws.{count-insert, count-all, sorted-insert, sorted-rest, first-least, first-fails, to-none, to-fails, to-all}
+use Rattle.links.proofs.OpenLaws.{unfit, fit-one, fit-not, count-insert, count-all, sorted-insert, sorted-one, sorted-rest, first-least, first-fails, to-none, to-fails, to-all}
 use Rattle.links.proofs.SiftLaws.{stores, kept-more, rising-end, rising-all, sinking-end, sinking-all, root-least}
-
-told : {b : Bool} → b ≡ true → T b
-told e = subst T (sym e) tt
-
-refuted : (b : Bool) → T b → not b ≡ false
-refuted true h = refl
-refuted false h = absurd h
 
 -- ---- the empty heap, and how many a heap holds
 
@@ -44,6 +36,25 @@ pub holds-first : {A : Type 0} (l : List Entry) (ests : List Float) (nodes : Lis
 holds-first [] ests nodes n h p f = absurd (let d : ⊥ = omega (arith, holds-length h) in d)
 holds-first (e ∷ r) ests nodes n h p f = f e r refl
 
+-- every heap holds a list: its entries, inserted one by one
+pub listed : (ℕ → Entry) → ℕ → List Entry
+listed f zero = []
+listed f (suc n) = insert (f n) (listed f n)
+
+module _ (f : ℕ → Entry) where
+  listed-sorted : (n : ℕ) → Sorted (listed f n)
+  unfolding listed
+  listed-sorted zero = none
+  listed-sorted (suc n) = sorted-insert (f n) (listed f n) (listed-sorted n)
+
+  listed-same : (p : Entry → Bool) (n : ℕ) → countTo p f n ≡ count p (listed f n)
+  unfolding listed count countTo
+  listed-same p zero = refl
+  listed-same p (suc n) = omega (arith, count-insert p (f n) (listed f n), listed-same p n)
+
+pub holds-some : (ests : List Float) (nodes : List ℕ) (n : ℕ) → Lent ests nodes n → Ordered (entryAt ests nodes) n → Holds (listed (entryAt ests nodes) n) ests nodes n
+holds-some ests nodes n h o = record { sorted = listed-sorted (entryAt ests nodes) n; lent = h; ordered = o; same = λ p. listed-same (entryAt ests nodes) p n }
+
 -- ---- one more, and one less
 
 module _ (ests : List Float) (nodes : List ℕ) where
@@ -63,18 +74,20 @@ module _ (ests : List Float) (nodes : List ℕ) where
         };
       }
 
-  -- every estimate of the slice is an f64: so is every one of the list
-  fit : ((i : ℕ) → T (fits binary64 (getD ests i nan))) → (n : ℕ) (e : Entry) (l : List Entry) → Holds (e ∷ l) ests nodes n → T (fits binary64 (e .est))
+  -- where every estimate of the slice is an f64, so is every one of the list
+  fit : ((i : ℕ) → T (fits binary64 (getD ests i nan))) → (n : ℕ) (l : List Entry) → Holds l ests nodes n → count unfit l ≡ 0
   unfolding entryAt
-  fit g n e l H =
-      let p : Entry → Bool = λ (a : Entry). not (fits binary64 (a .est)) in
-      told (not-false (fits binary64 (e .est)) (first-fails p e l (sym (H .same p) ∙ to-none p (entryAt ests nodes) n (λ i a. refuted (fits binary64 (getD ests i nan)) (g i)))))
+  fit g n l H = sym (H .same unfit) ∙ to-none unfit (entryAt ests nodes) n (λ i a. fit-not (entryAt ests nodes i) (g i))
+
+  -- slices hold one list
+  pub holds-one : ((i : ℕ) → T (fits binary64 (getD ests i nan))) → (n : ℕ) (l m : List Entry) → Holds l ests nodes n → Holds m ests nodes n → l ≡ m
+  holds-one g n l m H K = sorted-one l m (H .sorted) (K .sorted) (λ p. sym (H .same p) ∙ K .same p) (fit g n l H)
 
   taken : (n : ℕ) → ((i : ℕ) → T (fits binary64 (getD ests i nan))) → 0 < n → (e : Entry) (l : List Entry) → Holds (e ∷ l) ests nodes n → entryAt ests nodes 0 ≡ e
   unfolding entryAt
   taken n g h e l H =
       let f = entryAt ests nodes in
-      one-entry (f 0) e (g 0) (fit g n e l H)
+      one-entry (f 0) e (g 0) (fit-one e (first-fails unfit e l (fit g n (e ∷ l) H)))
       (to-fails (λ (a : Entry). beforeOf a e) f n 0 (H .same _ ∙ first-least e l (H .sorted)) h)
       (first-fails (λ (a : Entry). beforeOf a (f 0)) e l (sym (H .same _) ∙ to-none (λ (a : Entry). beforeOf a (f 0)) f n (λ i a. root-least f n (H .ordered) i i (omega arith) a)))
 

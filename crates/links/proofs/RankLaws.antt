@@ -13,7 +13,7 @@ use Rattle.floats.proofs.OrderLaws.{lt-numbers, lt-not-le, not-le-lt}
 use Rattle.floats.proofs.NextLaws.{bits-lt}
 use Rattle.numbers.specs.Order.{rankOf}
 
-told : {b : Bool} → b ≡ true → T b
+pub told : {b : Bool} → b ≡ true → T b
 told e = subst T (sym e) tt
 
 fits-neg : (x : Float) → T (fits binary64 x) → T (fits binary64 (neg x))
@@ -36,7 +36,7 @@ neg-lt x y h =
     let n = lt-numbers x y h in
     not-le-lt (neg y) (neg x) (neg-number y ∙ n .1) (neg-number x ∙ n .0)
     (by-cases (le (neg x) (neg y))
-    (λ e. never (sym (lt-not-le x y h) ∙ (let z = neg-le (neg x) (neg y) e in rw (neg-neg, neg-neg) at z)))
+    (λ e. never (sym (lt-not-le x y h) ∙ (let z = neg-le (neg x) (neg y) e in rw (neg-neg y, neg-neg x) at z)))
     (λ e. e))
 
 -- the sign is the top bit

@@ -4,17 +4,14 @@ use mathlib.Core.Bool.{Bool, true, false}
 use mathlib.Core.List.{List}
 use Prim.Native.Nat.{ℕ, zero, suc, _+_, _-_, _/_, _*_, _≤_, _<_, max}
 use native.Mathlib.Omega.{arith}
-use lib.Dec.{eqb}
 use lib.ListN.{length, getD, set, length-set}
 use lib.Seq.{getD-set-same, getD-set-other}
 use lib.Ieee.{Float, nan}
-use borrow.Author.Tests.{eqb-true, eqb-false}
-use Rattle.loops.proofs.Cases.{by-cases}
 use Rattle.links.specs.declared.heap.Entry.{Entry}
 use Rattle.links.specs.Heap.{beforeOf, one, countTo, parent, Ordered, entryAt, Kept}
 use Rattle.links.specs.Sift.{Rising, Sinking, Lesser}
 use Rattle.links.proofs.OrderLaws.{before-same, before-once, not-before}
-use Rattle.links.proofs.OpenLaws.{Put, to-put, to-before, to-more}
+use Rattle.links.proofs.OpenLaws.{which, Put, to-put, to-more}
 
 -- a pair of stores puts an entry
 pub stores : (ests : List Float) (nodes : List ℕ) (k : ℕ) (e : Entry) → k < length ests → k < length nodes → Put (entryAt ests nodes) (entryAt (set ests k (e .est)) (set nodes k (e .node .0))) k e
@@ -31,13 +28,9 @@ module _ (ests : List Float) (nodes : List ℕ) where
   pub kept-more : (ests′ : List Float) (nodes′ : List ℕ) (k : ℕ) (x : Float) (v : ℕ) → Kept ests nodes ests′ nodes′ → Kept ests nodes (set ests′ k x) (set nodes′ k v)
   kept-more ests′ nodes′ k x v h = record { ests-long = length-set ests′ k x ∙ h .ests-long; nodes-long = length-set nodes′ k v ∙ h .nodes-long }
 
--- x is not before y, told of equal entries
+-- that x does not come before y, said of entries equal to them
 same-no : {x x′ y y′ : Entry} → x′ ≡ x → y′ ≡ y → beforeOf x y ≡ false → beforeOf x′ y′ ≡ false
 same-no {x} {x′} {y} {y′} p q h = rw (p, q) h
-
--- by whether i is k
-which : {A : Type 0} (i k : ℕ) → (i ≡ k → A) → ((i ≡ k → ⊥) → A) → A
-which i k f g = by-cases (eqb i k) (λ d. f (eqb-true i k d)) (λ d. g (eqb-false i k d))
 
 -- ---- up
 
