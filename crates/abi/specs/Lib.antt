@@ -1,3 +1,4 @@
+pub mod Links
 pub mod Numbers
 pub mod Geom
 pub mod Raster

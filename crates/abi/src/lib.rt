@@ -2,5 +2,6 @@
 // station links is another crate.
 pub mod of_distance;
 pub mod of_geom;
+pub mod of_links;
 pub mod of_numbers;
 pub mod of_raster;

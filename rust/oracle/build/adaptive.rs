@@ -280,6 +280,8 @@ pub const EDITS: &[Edit] = &[
         "    closed: bool,\n}",
         "fn smooth(",
         "struct Node {",
+        "    f: f64,\n    id",
+        "    id: usize,\n}",
     ]),
     publish(&[
         "    fn allowed_at(",

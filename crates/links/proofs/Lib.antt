@@ -1,0 +1,5 @@
+pub mod RankLaws
+pub mod OrderLaws
+pub mod OpenLaws
+pub mod SiftLaws
+pub mod HoldLaws

@@ -1,0 +1,3 @@
+-- What the contracts of `links` cite.
+pub mod Heap
+pub mod Sift

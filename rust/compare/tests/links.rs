@@ -1,0 +1,82 @@
+//! The proved heap against the standard one with the oracle's order of nodes: each pop, bit for bit.
+use std::collections::BinaryHeap;
+
+use compare::links::Heap;
+use oracle::generate::Rng;
+use oracle::planner::Node;
+
+/// The link search keeps its nodes by the estimate's negative, since the standard heap pops the greatest.
+fn same_pop(heap: &mut Heap, want: &mut BinaryHeap<Node>) {
+    let got = heap.pop().map(|(est, node)| (est.to_bits(), node as usize));
+    let want = want.pop().map(|node| ((-node.f).to_bits(), node.id));
+    assert_eq!(got, want);
+}
+
+/// Pushes and pops at random, then pops all; how many calls it made.
+fn run(r: &mut Rng, calls: usize, pushes: f64, est: impl Fn(&mut Rng) -> f64, nodes: u64) -> usize {
+    let mut heap = Heap::new(calls);
+    let mut want = BinaryHeap::new();
+    for _ in 0..calls {
+        if r.chance(pushes) {
+            let (est, node) = (est(r), r.below(nodes) as u32);
+            heap.push(est, node);
+            want.push(Node { f: -est, id: node as usize });
+        } else {
+            same_pop(&mut heap, &mut want);
+        }
+        assert_eq!(heap.len(), want.len());
+    }
+    let left = heap.len();
+    for _ in 0..left {
+        same_pop(&mut heap, &mut want);
+    }
+    assert!(heap.is_empty() && want.is_empty());
+    calls + left
+}
+
+#[test]
+fn pops_as_the_standard_heap() {
+    let mut r = Rng(6);
+    let mut calls = 0;
+    for round in 0..400 {
+        let size = r.below(1_500) as usize + 1;
+        let pushes = r.pick(&[0.5, 0.6, 0.9, 1.0]);
+        calls += match round % 5 {
+            // Distances over a lattice, where different ways add up to equal sums.
+            0 => run(&mut r, size, pushes, |r| (r.below(40) as f64).hypot(r.below(40) as f64), 1_000),
+            1 => run(&mut r, size, pushes, |r| r.below(3) as f64, 20),
+            2 => run(&mut r, size, pushes, |r| r.range(0.0, 1e3), u64::from(u32::MAX) + 1),
+            3 => run(
+                &mut r,
+                size,
+                pushes,
+                |r| r.pick(&[0.0, -0.0, 1.0, -1.0, f64::INFINITY, f64::MIN_POSITIVE]),
+                4,
+            ),
+            // Any float but a NaN.
+            _ => run(
+                &mut r,
+                size,
+                pushes,
+                |r| Some(f64::from_bits(r.bits())).filter(|x| !x.is_nan()).unwrap_or(0.5),
+                8,
+            ),
+        };
+    }
+    assert!(calls > 100_000, "{calls} calls");
+}
+
+#[test]
+fn equal_estimates_rise_and_fall() {
+    for up in [true, false] {
+        let n = 5_000u32;
+        let mut heap = Heap::new(n as usize);
+        for k in 0..n {
+            heap.push(2.5, if up { k } else { n - 1 - k });
+        }
+        for k in 0..n {
+            assert_eq!(heap.pop(), Some((2.5, k)));
+        }
+        assert_eq!(heap.pop(), None);
+    }
+}
