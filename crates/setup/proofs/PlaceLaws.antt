@@ -8,13 +8,13 @@ use lib.Ieee.{Float, nan, binary64, add, mul, le}
 use Rattle.geom.specs.Region.{containsOf}
 use Rattle.geom.specs.Segment.{anyWithin}
 use Rattle.geom.specs.declared.vec2.Vec2.{Vec2}
-use Rattle.geom.specs.declared.region.Region.{Region}
 use Rattle.raster.specs.Grid.{cellOf}
 use Rattle.raster.specs.declared.grid.Grid.{Grid}
 use Rattle.raster.specs.declared.grid.Found.{Found}
 use Rattle.raster.specs.declared.grid.Found.the-variants.{Nothing, At}
 use Rattle.setup.specs.Limits.{f2}
 use Rattle.setup.specs.Place.{wallAt, allowedAt}
+use Rattle.setup.specs.declared.Setup.{Setup}
 
 module _ (g : Grid) (wall : List Float) (keep : Float) (p : Vec2) (f : Found) (F : f ≡ cellOf g p) where
   pub wall-none : f ≡ Nothing → false ≡ wallAt g wall keep p
@@ -25,16 +25,16 @@ module _ (g : Grid) (wall : List Float) (keep : Float) (p : Vec2) (f : Found) (F
   unfolding wallAt
   wall-some i j k e h = rw (← F, e, h)
 
-module _ (g : Grid) (wall vs : List Float) (lens : List ℕ) (region : Region) (keep : Float) (p : Vec2) (w : Bool) (W : w ≡ wallAt g wall keep p) where
-  pub allowed-far : w ≡ false → false ≡ allowedAt g wall vs lens region keep p
+module _ (s : Setup) (wall vs : List Float) (lens : List ℕ) (p : Vec2) (w : Bool) (W : w ≡ wallAt (s .grid) wall (s .keep) p) where
+  pub allowed-far : w ≡ false → false ≡ allowedAt s wall vs lens p
   unfolding allowedAt
   allowed-far e = rw (← W, e)
 
-  module _ (e : w ≡ true) (t : Bool) (T : t ≡ anyWithin vs lens region p keep) where
-    pub allowed-near : t ≡ true → false ≡ allowedAt g wall vs lens region keep p
+  module _ (e : w ≡ true) (t : Bool) (T : t ≡ anyWithin vs lens (s .region) p (s .keep)) where
+    pub allowed-near : t ≡ true → false ≡ allowedAt s wall vs lens p
     unfolding allowedAt
     allowed-near d = rw (← W, e, ← T, d)
 
-    pub allowed-clear : t ≡ false → (i : Bool) → i ≡ containsOf vs lens region p → i ≡ allowedAt g wall vs lens region keep p
+    pub allowed-clear : t ≡ false → (i : Bool) → i ≡ containsOf vs lens (s .region) p → i ≡ allowedAt s wall vs lens p
     unfolding allowedAt
     allowed-clear d i I = rw (← W, e, ← T, d) I

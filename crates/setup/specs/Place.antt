@@ -3,19 +3,21 @@
 use Prim.Native.Nat.{ℕ, _+_, _*_}
 use mathlib.Core.Bool.{Bool, false, not, _&&_}
 use mathlib.Core.List.{List}
-use lib.ListN.{getD}
+use lib.ListN.{length, getD}
 use lib.Dec.{eqb}
 use lib.Ieee.{Float, nan, binary64, add, mul, le}
-use Rattle.geom.specs.Region.{containsOf}
+use Rattle.numbers.specs.Bound.{Bounds}
+use Rattle.geom.specs.Region.{Held, containsOf}
 use Rattle.geom.specs.Segment.{anyWithin}
 use Rattle.geom.specs.declared.vec2.Vec2.{Vec2}
-use Rattle.geom.specs.declared.region.Region.{Region}
-use Rattle.raster.specs.Grid.{cellOf}
+use Rattle.raster.specs.Grid.{Over, cellOf}
 use Rattle.raster.specs.Stock.{countDisk}
+use Rattle.raster.specs.Contact.{engagementOf}
 use Rattle.raster.specs.declared.grid.Grid.{Grid}
 use Rattle.raster.specs.declared.grid.Found.{Found}
 use Rattle.raster.specs.declared.grid.Found.the-variants.{Nothing, At}
 use Rattle.setup.specs.Limits.{f2}
+use Rattle.setup.specs.declared.Setup.{Setup}
 
 -- wall_dist[k] + 2.0 * cell >= keep at the point's cell; off the raster no
 abbrev pub wallIn : Grid → List Float → Float → Found → Bool
@@ -26,9 +28,19 @@ unfoldable pub wallAt : Grid → List Float → Float → Vec2 → Bool
 wallAt g wall keep p = wallIn g wall keep (cellOf g p)
 
 -- .. && !any_within(keep) && contains
-unfoldable pub allowedAt : Grid → List Float → List Float → List ℕ → Region → Float → Vec2 → Bool
-allowedAt g wall vs lens region keep p = wallAt g wall keep p && (not (anyWithin vs lens region p keep) && containsOf vs lens region p)
+unfoldable pub allowedAt : Setup → List Float → List Float → List ℕ → Vec2 → Bool
+allowedAt s wall vs lens p = wallAt (s .grid) wall (s .keep) p && (not (anyWithin vs lens (s .region) p (s .keep)) && containsOf vs lens (s .region) p)
 
 -- no stock cell lies in the tool's disk
-unfoldable pub freeAt : Grid → List ℕ → Float → Vec2 → Bool
-freeAt g m r p = eqb (countDisk g p r m) 0
+unfoldable pub freeAt : Setup → List ℕ → Vec2 → Bool
+freeAt s m p = eqb (countDisk (s .grid) p (s .r) m) 0
+
+-- contact of a tool of radius r
+unfoldable pub contactAt : Setup → List ℕ → Vec2 → Float → Float
+contactAt s m p r = engagementOf (s .grid) m p r (s .samples)
+
+-- the wall distances and the region are lent, and the bound is that of `keep`
+pub record Walls (s : Setup) (wall vs : List Float) (lens : List ℕ) : Type 0 where
+  pub over : Over (s .grid) (length wall)
+  pub held : Held vs lens (s .region)
+  pub bound : Bounds (s .keep) (s .bound)

@@ -1,14 +1,11 @@
 // The tests that planning makes of a tool's place.
 ghost use mathlib.Core.Path.{_≡_};
-ghost use Prim.Native.Nat.{_*_, _≤_};
 ghost use lib.ListN.{length};
-ghost use Rattle.numbers.specs.Bound.{Bounds};
-ghost use Rattle.geom.specs.Region.{Held};
 ghost use Rattle.raster.specs.Grid.{Over};
-ghost use Rattle.setup.specs.Place.{wallAt, allowedAt, freeAt};
-use geom::region::Region;
+ghost use Rattle.raster.specs.Contact.{samplesOf, Rim};
+ghost use Rattle.setup.specs.Place.{Walls, wallAt, allowedAt, freeAt, contactAt};
+use super::Setup;
 use geom::vec2::Vec2;
-use numbers::bound::Bound;
 use raster::grid::Found;
 use raster::grid::Grid;
 
@@ -25,25 +22,16 @@ fn wall_at(g: Grid, wall: &[f64], keep: f64, p: Vec2) -> bool
     wall[k] + 2.0 * g.cell >= keep
 }
 
-// The tool centre may be at p: in the region, and at least `keep` from every wall and island. `bound`
-// is that of `keep`.
-pub fn allowed_at(
-    g: Grid,
-    wall: &[f64],
-    vs: &[f64],
-    lens: &[u32],
-    region: Region,
-    keep: f64,
-    bound: Bound,
-    p: Vec2,
-) -> bool
-    requires { ⌜ Over g (length (now wall)) ⌝ }
-    requires { ⌜ Held (now vs) (now lens) region ⌝ }
-    requires { ⌜ Bounds keep bound ⌝ }
-    ensures { λ b. ⌜ b ≡ allowedAt g (now (wall .entry)) (now (vs .entry)) (now (lens .entry)) region keep p ⌝ }
+// The tool centre may be at p: in the region, and at least `keep` from every wall and island.
+pub fn allowed_at(s: Setup, wall: &[f64], vs: &[f64], lens: &[u32], p: Vec2) -> bool
+    requires { ⌜ Walls s (now wall) (now vs) (now lens) ⌝ }
+    ensures { λ b. ⌜ b ≡ allowedAt s (now (wall .entry)) (now (vs .entry)) (now (lens .entry)) p ⌝ }
 {
-    if wall_at(g, wall, keep, p) {
-        if geom::segment::any_within(vs, lens, region, p, keep, bound) {
+    let g = s.grid;
+    let region = s.region;
+    let bound = s.bound;
+    if wall_at(g, wall, s.keep, p) {
+        if geom::segment::any_within(vs, lens, region, p, s.keep, bound) {
             return false;
         }
         return geom::region::contains(vs, lens, region, p);
@@ -52,9 +40,20 @@ pub fn allowed_at(
 }
 
 // The tool at p touches no stock.
-pub fn free(g: Grid, map: &[u8], r: f64, p: Vec2) -> bool
-    requires { ⌜ Over g (length (now map)) ⌝ }
-    ensures { λ b. ⌜ b ≡ freeAt g (now (map .entry)) r p ⌝ }
+pub fn free(s: Setup, map: &[u8], p: Vec2) -> bool
+    requires { ⌜ Over (s .grid) (length (now map)) ⌝ }
+    ensures { λ b. ⌜ b ≡ freeAt s (now (map .entry)) p ⌝ }
 {
-    raster::stock::count_disk(g, map, p, r) == 0
+    let g = s.grid;
+    raster::stock::count_disk(g, map, p, s.r) == 0
+}
+
+// Contact of a tool of radius r at p.
+pub fn contact(s: Setup, map: &[u8], rim: &[f64], p: Vec2, r: f64) -> f64
+    requires { ⌜ Over (s .grid) (length (now map)) ⌝ }
+    requires { ⌜ Rim (samplesOf (s .samples)) (now rim) ⌝ }
+    ensures { λ a. ⌜ a ≡ contactAt s (now (map .entry)) p r ⌝ }
+{
+    let g = s.grid;
+    raster::contact::engagement(g, map, p, r, rim, s.samples)
 }

@@ -11,16 +11,16 @@ any-within-requires : tie.Need-any-within-requires
 any-within-requires c κs = search needs
 
 returns : tie.Need-returns
-returns c = allowed-near _ _ _ _ _ _ _ _ (c .before .before .before .wall-at .ensures) (c .before .before .if1 .taken) _ (c .before .any-within .ensures) (c .if2 .taken)
+returns c = allowed-near _ _ _ _ _ _ (c .before .before .before .wall-at .ensures) (c .before .before .if1 .taken) _ (c .before .any-within .ensures) (c .if2 .taken)
 
 contains-requires : tie.Need-contains-requires
 contains-requires c κs = search needs
 
 returns-2 : tie.Need-returns-2
-returns-2 c = allowed-clear _ _ _ _ _ _ _ _ (c .before .before .before .before .wall-at .ensures) (c .before .before .before .if1 .taken) _ (c .before .before .any-within .ensures) (c .before .if2 .left) _ (c .contains .ensures)
+returns-2 c = allowed-clear _ _ _ _ _ _ (c .before .before .before .before .wall-at .ensures) (c .before .before .before .if1 .taken) _ (c .before .before .any-within .ensures) (c .before .if2 .left) _ (c .contains .ensures)
 
 returns-3 : tie.Need-returns-3
-returns-3 c = allowed-far _ _ _ _ _ _ _ _ (c .before .wall-at .ensures) (c .if1 .left)
+returns-3 c = allowed-far _ _ _ _ _ _ (c .before .wall-at .ensures) (c .if1 .left)
 
 pub allowed-at-spec : {M : Type 1} → statement M
 allowed-at-spec =
