@@ -3,3 +3,4 @@ pub mod OrderLaws
 pub mod OpenLaws
 pub mod SiftLaws
 pub mod HoldLaws
+pub mod StraightLaws
