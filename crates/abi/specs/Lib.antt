@@ -2,3 +2,4 @@ pub mod Links
 pub mod Numbers
 pub mod Geom
 pub mod Raster
+pub mod Setup

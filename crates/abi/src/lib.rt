@@ -5,3 +5,4 @@ pub mod of_geom;
 pub mod of_links;
 pub mod of_numbers;
 pub mod of_raster;
+pub mod of_setup;

@@ -11,3 +11,4 @@ pub mod inputs;
 pub mod links;
 pub mod numbers;
 pub mod raster;
+pub mod setup;

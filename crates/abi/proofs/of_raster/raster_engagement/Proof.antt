@@ -1,15 +1,8 @@
 -- `abi::of_raster::raster_engagement` meets its contract. Assumes nothing.
-use mathlib.Core.Path.{_≡_, subst}
-use mathlib.Core.List.{List}
-use lib.Ieee.{Float}
-use Prim.Native.Nat.{ℕ}
-use Rattle.raster.specs.Contact.{Rim}
+use Rattle.abi.proofs.SetupLaws.{rim-at}
 use borrow.Author.Needs.{needs}
 use Rattle.abi.proofs.of_raster.raster_engagement.Statement.{statement}
 use Rattle.abi.proofs.of_raster.raster_engagement.Tie as tie
-
-rim-at : {n m : ℕ} {w : List Float} → n ≡ m → Rim n w → Rim m w
-rim-at {w = w} e r = subst (λ (k : ℕ). Rim k w) e r
 
 samples-of-requires : tie.Need-samples-of-requires
 samples-of-requires c κs = search needs
