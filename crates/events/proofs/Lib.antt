@@ -1,0 +1,4 @@
+-- `TrialLaws`: a pass with its log clears what the replay clears. `ReplayLaws`: one more row. `Demand`: the theorem over every list of events.
+pub mod TrialLaws
+pub mod ReplayLaws
+pub mod Demand

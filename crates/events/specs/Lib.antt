@@ -1,0 +1,6 @@
+-- `Chunk`: the rows of a chunk list, and a job as the replay is told it. `Replay`: what a list clears, and the rule of each row. `Events`: what the planner
+-- does, event by event. `Told`: demand 3.
+pub mod Chunk
+pub mod Replay
+pub mod Events
+pub mod Told
