@@ -1,2 +1,3 @@
-// The theory of events: definitions and laws of document 01's chunk list, its replay and what the planner does, event by event: see specs/ and proofs/.
-// There is no code here.
+// The chunk list in lent slices. The theory of events, what the planner does and what the replay of its
+// list then shows, is in specs/ and proofs/.
+pub mod list;
