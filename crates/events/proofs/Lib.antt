@@ -1,6 +1,8 @@
--- `TrialLaws`: a pass with its log clears what the replay clears. `ReplayLaws`: one more row. `Demand`: the theorem over every list of events. `LentLaws`:
--- the lent slices hold a list.
+-- `TrialLaws`: a pass with its log clears what the replay clears. `ReplayLaws`: one more row. `Demand`: the theorem over every list of events. `WayLaws`:
+-- several links at once. `LentLaws`: the lent slices hold a list. `PassLaws`: a pass point by point, and from its triples.
 pub mod TrialLaws
 pub mod ReplayLaws
 pub mod Demand
+pub mod WayLaws
 pub mod LentLaws
+pub mod PassLaws
