@@ -5,7 +5,7 @@ use mathlib.Core.Bool.{cond}
 use mathlib.Core.List.{List, [], _∷_, _++_, map}
 use mathlib.Core.Option.{Option, none, some}
 use lib.ListN.{length, take, drop, set}
-use lib.Dec.{eqb}
+use lib.Dec.{eqb, leb}
 use lib.Ieee.{Float}
 use Rattle.geom.specs.Vec.{v2, f0}
 use Rattle.geom.specs.declared.vec2.Vec2.{Vec2}
@@ -102,13 +102,17 @@ push none o = none
 push (some c) none = none
 push (some c) (some cs) = some (c ∷ cs)
 
+-- a row's chunk, if all its triples are there
+unfoldable pub chunkAt : Row → List Triple → Option Chunk
+chunkAt r ts = cond (leb (r .first + r .count) (length ts)) (chunkOf (r .kind) (take (r .count) (drop (r .first) ts))) none
+
 unfoldable pub readChunks : List Row → List Triple → Option (List Chunk)
 readChunks [] ts = some []
-readChunks (r ∷ rs) ts = push (chunkOf (r .kind) (take (r .count) (drop (r .first) ts))) (readChunks rs ts)
+readChunks (r ∷ rs) ts = push (chunkAt r ts) (readChunks rs ts)
 
 -- the first n rows of the lent slices; none where they are no list
 unfoldable pub decode : ℕ → List ℕ → List Float → Option (List Chunk)
-decode n rows triples = readChunks (readRows n rows) (readTriples triples)
+decode n rows triples = cond (leb (n * 3) (length rows)) (readChunks (readRows n rows) (readTriples triples)) none
 
 -- ---- the slices while planning: their first parts are a list's rows and triples, and what stands behind is free
 

@@ -1,7 +1,7 @@
 -- One row read from the lent slices, by number, and a pass cleared from its triples. Definitions only.
-use Prim.Native.Nat.{ℕ, _+_, _-_, _*_, _/_}
+use Prim.Native.Nat.{ℕ, zero, suc, _+_, _-_, _*_, _/_}
 use mathlib.Core.Bool.{cond}
-use mathlib.Core.List.{List, map}
+use mathlib.Core.List.{List, [], map}
 use mathlib.Core.Option.{Option, none, some}
 use lib.ListN.{length, take, drop, getD}
 use lib.Dec.{eqb, ltb}
@@ -12,7 +12,7 @@ use Rattle.geom.specs.declared.vec2.Vec2.{Vec2}
 use Rattle.raster.specs.Log.{Stock, clearAfter}
 use Rattle.raster.specs.declared.grid.Grid.{Grid}
 use Rattle.events.specs.Chunk.{Point, Chunk, helix, plunge, link, cut}
-use Rattle.events.specs.Lent.{pointOf, readTriples}
+use Rattle.events.specs.Lent.{pointOf, readTriples, push}
 use Rattle.events.specs.declared.list.Read.{Read}
 use Rattle.events.specs.declared.list.Read.the-variants.{Helix, Plunge, Link, Cut, Unfit}
 
@@ -46,6 +46,11 @@ meant ts (Plunge p) = some (plunge p)
 meant ts (Link p) = some (link p)
 meant ts (Cut first count) = some (cut (map pointOf (take count (drop first (readTriples ts)))))
 meant ts Unfit = none
+
+-- n rows from row k on, read one by one
+unfoldable pub listFrom : List ℕ → List Float → ℕ → ℕ → Option (List Chunk)
+listFrom rows ts k zero = some []
+listFrom rows ts k (suc n) = push (meant ts (readAt rows ts k)) (listFrom rows ts (suc k) n)
 
 -- ---- a pass whose triples lie in a slice, from triple `first` on, cleared as a loop does it
 
