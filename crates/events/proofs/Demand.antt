@@ -17,11 +17,11 @@ use Rattle.raster.proofs.LogLaws.{kept-none, st-eq, undone-long}
 use Rattle.raster.proofs.RunLaws.{kept-passes, ready-for}
 use Rattle.raster.proofs.ClearLaws.{disk-cells, after-cells}
 use Rattle.events.specs.Chunk.{Point, Chunk, helix, plunge, link, cut, Job}
-use Rattle.events.specs.Replay.{Replay, rp, crescent, disk, pass, removed, lastOf, replayRow, replayFrom, replay, origin, PointGood, LaterGood, PassGood, RowGood, HelixGood}
+use Rattle.events.specs.Replay.{Replay, rp, crescent, disk, pass, removed, lastOf, replayRow, replayFrom, replay, origin, PointGood, LaterGood, PassGood, RowGood, HelixGood, Explained}
 use Rattle.events.specs.Events.{Event, tried, withdrawn, linked, plunged, noWay, kept, entered, givenUp, State, state, begin, cutsOf, passLogged, fresh, putBackAll, takeAgain, keep, step, steps, after, PointChecked, LaterChecked, PassChecked, LinkChecked, PlungeChecked, KeepChecked, Checked, LegalFrom, Legal, Fit}
 use Rattle.events.specs.Told.{trialMap, trialRemoved, TrialGood, Told, Demand3}
 use Rattle.events.proofs.TrialLaws.{pass-cells, redone-none, bored-length}
-use Rattle.events.proofs.ReplayLaws.{replay-more, explained-more}
+use Rattle.events.proofs.ReplayLaws.{replay-more, explained-more, explained-at}
 
 module _ (j : Job) where
   -- what holds between events: the state is told, its log clears the trial again, and the log is long enough
@@ -251,3 +251,10 @@ module _ (j : Job) where
       at-end : after j log es .trial ≡ none → after j log es .stock .cells ≡ replay j (after j log es .rows) .map
       at-end e =
           told-each log l es h es [] (append-nil es) .map ∙ ap (λ (t : Option (List Point)). trialMap j t (replay j (after j log es .rows) .map)) e
+
+-- ---- what the claim says of one row
+
+module _ (j : Job) (s : State) (t : Told j s) where
+  -- each listed row keeps its rule at the replay of the rows before it
+  pub told-row : (a : List Chunk) (c : Chunk) (b : List Chunk) → s .rows ≡ a ++ (c ∷ b) → RowGood j (replay j a) c
+  told-row a c b e = explained-at j a c b (subst (Explained j) e (t .rows))

@@ -1,19 +1,19 @@
 -- Rows read one by one are the list that the slices hold: for every pair of slices `listFrom` is `decode`. Assumes nothing.
 use mathlib.Core.Path.{_≡_, refl, sym, ap, _∙_, subst}
-use mathlib.Core.Bool.{Bool, true, false, cond}
-use mathlib.Core.List.{List, [], _∷_, _++_, map}
+use mathlib.Core.Bool.{Bool, false, cond}
+use mathlib.Core.List.{List, [], _∷_}
 use mathlib.Core.Option.{Option, none, some}
 use Prim.Native.Nat.{ℕ, zero, suc, _+_, _*_, _/_, _≤_, _<_}
 use native.Mathlib.Omega.{arith}
 use lib.ListN.{length, take, drop, getD, length-take, length-drop}
 use lib.Seq.{drop-cons}
-use lib.Dec.{eqb, ltb, leb}
+use lib.Dec.{eqb, ltb}
 use lib.Ieee.{Float, nan}
-use borrow.Author.Tests.{ltb-true, ltb-false, le-leb, lt-leb, eqb-true, eqb-false, eq-eqb}
+use borrow.Author.Tests.{ltb-true, ltb-false, le-leb, lt-leb, eqb-true, eqb-false}
 use Rattle.loops.proofs.Cases.{by-cases}
-use Rattle.events.specs.Chunk.{Point, Chunk, helix, plunge, link, cut}
-use Rattle.events.specs.Lent.{Row, Triple, place, pointOf, single, readRows, readTriples, chunkOf, chunkAt, push, readChunks, decode, Holds}
-use Rattle.events.specs.Read.{spotAt, valueAt, readOne, readWhole, readAt, meant, listFrom}
+use Rattle.events.specs.Chunk.{Chunk}
+use Rattle.events.specs.Lent.{Triple, single, readRows, readTriples, chunkOf, chunkAt, push, readChunks, decode, Holds}
+use Rattle.events.specs.Read.{readOne, readWhole, readAt, meant, listFrom}
 use Rattle.events.specs.declared.list.Read.the-variants.{Cut, Unfit}
 use Rattle.events.proofs.LentLaws.{holds-decode, holds-long}
 
