@@ -1,0 +1,30 @@
+-- The rows of a chunk list, and a job as the replay is told it. Definitions only.
+use Prim.Native.Nat.{ℕ}
+use mathlib.Core.Bool.{Bool}
+use mathlib.Core.List.{List}
+use lib.Ieee.{Float}
+use Rattle.geom.specs.declared.vec2.Vec2.{Vec2}
+use Rattle.raster.specs.declared.grid.Grid.{Grid}
+
+-- a point of a cut with the contact listed for it: 0 for the first point, which is not measured
+pub record Point : Type 0 where
+  pub at : Vec2
+  pub contact : Float
+
+pub data Chunk : Type 0 where
+  helix : Vec2 → Float → Chunk  -- centre, radius of the tool centre's path
+  plunge : Vec2 → Chunk
+  link : Vec2 → Chunk
+  cut : List Point → Chunk
+
+-- what the job settles: the raster, the starting stock, the numbers, and the judges of a place, which see a map and nothing else of the planner's
+pub record Job : Type 0 where
+  pub grid : Grid
+  pub start : List ℕ
+  pub r : Float
+  pub guard : Float
+  pub limit : Float
+  pub allowed : Vec2 → Bool
+  pub free : List ℕ → Vec2 → Bool  -- no stock in the tool's disk
+  pub contact : List ℕ → Vec2 → Float  -- sampled at the widened radius
+  pub linkClear : List ℕ → Vec2 → Vec2 → Bool  -- the samples of a straight feed
