@@ -2,7 +2,7 @@
 ghost use mathlib.Core.Path.{_≡_};
 ghost use Prim.Native.Nat.{_+_, _*_, _≤_, _<_};
 ghost use lib.ListN.{length};
-ghost use Rattle.geom.specs.Vec.{v2, distanceOf, lengthOf, normalizedOf, fromAngle, lerpOf};
+ghost use Rattle.geom.specs.Vec.{v2, dotOf, crossOf, perpOf, distanceOf, lengthOf, normalizedOf, fromAngle, lerpOf};
 ghost use Rattle.geom.specs.Region.{Held, Grown, pointInLoop, containsOf, boundsOf, crossingsOf, vertexCount};
 ghost use Rattle.geom.specs.Segment.{segDistance, anyWithin};
 ghost use Rattle.abi.specs.Geom.{region, put2, put4};
@@ -43,6 +43,39 @@ pub extern "C" fn geom_from_angle(a: f64, out: &mut [f64])
     ensures { λ _. ⌜ now (out .exit) ≡ put2 (fromAngle a) (now (out .entry)) ⌝ }
 {
     put(Vec2::from_angle(a), out);
+}
+
+#[no_mangle]
+pub extern "C" fn geom_perp(x: f64, y: f64, out: &mut [f64])
+    requires { ⌜ 2 ≤ length (now out) ⌝ }
+    ensures { λ _. ⌜ now (out .exit) ≡ put2 (perpOf (v2 x y)) (now (out .entry)) ⌝ }
+{
+    let a = Vec2 { x, y };
+    put(a.perp(), out);
+}
+
+#[no_mangle]
+pub extern "C" fn geom_dot(ax: f64, ay: f64, bx: f64, by: f64) -> f64
+    ensures { λ r. ⌜ r ≡ dotOf (v2 ax ay) (v2 bx by) ⌝ }
+{
+    let a = Vec2 { x: ax, y: ay };
+    a.dot(Vec2 { x: bx, y: by })
+}
+
+#[no_mangle]
+pub extern "C" fn geom_cross(ax: f64, ay: f64, bx: f64, by: f64) -> f64
+    ensures { λ r. ⌜ r ≡ crossOf (v2 ax ay) (v2 bx by) ⌝ }
+{
+    let a = Vec2 { x: ax, y: ay };
+    a.cross(Vec2 { x: bx, y: by })
+}
+
+#[no_mangle]
+pub extern "C" fn geom_length(x: f64, y: f64) -> f64
+    ensures { λ r. ⌜ r ≡ lengthOf (v2 x y) ⌝ }
+{
+    let a = Vec2 { x, y };
+    a.length()
 }
 
 #[no_mangle]

@@ -6,15 +6,17 @@ ghost use lib.ListN.{length};
 ghost use Rattle.loops.specs.Cells.{ones};
 ghost use Rattle.geom.specs.Vec.{v2};
 ghost use Rattle.raster.specs.Grid.{Over, centerOf, cellOf, stockAt};
+ghost use Rattle.raster.specs.Disk.{diskRow};
 ghost use Rattle.raster.specs.Stock.{cl, clearDisk, countDisk, intersection};
 ghost use Rattle.raster.specs.Log.{st, Ready, Logged, clearAfter, undone, redone};
 ghost use Rattle.raster.specs.Contact.{samplesOf, engagementOf};
 ghost use Rattle.raster.specs.Fill.{fillRegion};
 ghost use Rattle.geom.specs.Region.{Held, vertexCount};
 ghost use Rattle.abi.specs.Geom.{region, put2};
-ghost use Rattle.abi.specs.Raster.{grid, packedCell};
+ghost use Rattle.abi.specs.Raster.{grid, packedCell, packedSpan};
 use geom::region::Region;
 use geom::vec2::Vec2;
+use raster::disk::Span;
 use raster::grid::Found;
 use raster::grid::Grid;
 
@@ -55,6 +57,40 @@ fn pack(i: usize, j: usize) -> u64
     ensures { λ r. ⌜ r ≡ j * 0x1_0000_0000 + i ⌝ }
 {
     (j as u64) * 0x1_0000_0000 + (i as u64)
+}
+
+// The columns of a row in a disk, or u64::MAX.
+#[no_mangle]
+pub extern "C" fn raster_disk_row(
+    ox: f64,
+    oy: f64,
+    cell: f64,
+    nx: usize,
+    ny: usize,
+    x: f64,
+    y: f64,
+    r: f64,
+    j: usize,
+) -> u64
+    ensures { λ k. ⌜ k ≡ packedSpan (diskRow (grid ox oy cell nx ny) (v2 x y) r j) ⌝ }
+{
+    let origin = Vec2 { x: ox, y: oy };
+    let g = Grid {
+        origin,
+        cell,
+        nx,
+        ny,
+    };
+    pack_span(raster::disk::disk_row(g, Vec2 { x, y }, r, j))
+}
+
+fn pack_span(s: Span) -> u64
+    ensures { λ k. ⌜ k ≡ packedSpan s ⌝ }
+{
+    match s {
+        Span::Empty => 0xffff_ffff_ffff_ffff,
+        Span::Cols(a, b) => ((b % 0x1_0000) as u64) * 0x1_0000_0000 + ((a % 0x1_0000) as u64),
+    }
 }
 
 #[no_mangle]

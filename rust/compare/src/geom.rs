@@ -7,6 +7,10 @@ mod linked {
         pub fn geom_lerp(ax: f64, ay: f64, bx: f64, by: f64, t: f64, out: *mut f64, out_len: usize);
         pub fn geom_normalized(x: f64, y: f64, out: *mut f64, out_len: usize);
         pub fn geom_from_angle(a: f64, out: *mut f64, out_len: usize);
+        pub fn geom_perp(x: f64, y: f64, out: *mut f64, out_len: usize);
+        pub safe fn geom_dot(ax: f64, ay: f64, bx: f64, by: f64) -> f64;
+        pub safe fn geom_cross(ax: f64, ay: f64, bx: f64, by: f64) -> f64;
+        pub safe fn geom_length(x: f64, y: f64) -> f64;
         pub safe fn geom_distance(ax: f64, ay: f64, bx: f64, by: f64) -> f64;
         pub safe fn geom_seg_distance(px: f64, py: f64, ax: f64, ay: f64, bx: f64, by: f64) -> f64;
         pub fn geom_point_in_loop(vs: *const f64, vs_len: usize, at: usize, n: usize, x: f64, y: f64)
@@ -76,6 +80,24 @@ pub fn from_angle(a: f64) -> Vec2 {
     let mut out = [0.0; 2];
     unsafe { linked::geom_from_angle(a, out.as_mut_ptr(), 2) };
     v2(out[0], out[1])
+}
+
+pub fn perp(a: Vec2) -> Vec2 {
+    let mut out = [0.0; 2];
+    unsafe { linked::geom_perp(a.x, a.y, out.as_mut_ptr(), 2) };
+    v2(out[0], out[1])
+}
+
+pub fn dot(a: Vec2, b: Vec2) -> f64 {
+    linked::geom_dot(a.x, a.y, b.x, b.y)
+}
+
+pub fn cross(a: Vec2, b: Vec2) -> f64 {
+    linked::geom_cross(a.x, a.y, b.x, b.y)
+}
+
+pub fn length(a: Vec2) -> f64 {
+    linked::geom_length(a.x, a.y)
 }
 
 pub fn distance(a: Vec2, b: Vec2) -> f64 {

@@ -5,6 +5,17 @@ use oracle::vec2::{Vec2, v2};
 mod linked {
     unsafe extern "C" {
         pub safe fn raster_cell_of(ox: f64, oy: f64, cell: f64, nx: usize, ny: usize, x: f64, y: f64) -> u64;
+        pub safe fn raster_disk_row(
+            ox: f64,
+            oy: f64,
+            cell: f64,
+            nx: usize,
+            ny: usize,
+            x: f64,
+            y: f64,
+            r: f64,
+            j: usize,
+        ) -> u64;
         pub fn raster_center(ox: f64, oy: f64, cell: f64, i: usize, j: usize, out: *mut f64, out_len: usize);
         pub fn raster_at(
             ox: f64,
@@ -124,6 +135,12 @@ impl Stock {
 
     pub fn cell_of(&self, p: Vec2) -> Option<(usize, usize)> {
         let k = linked::raster_cell_of(self.origin.x, self.origin.y, self.cell, self.nx, self.ny, p.x, p.y);
+        (k != u64::MAX).then_some(((k & 0xffff_ffff) as usize, (k >> 32) as usize))
+    }
+
+    pub fn disk_row(&self, c: Vec2, r: f64, j: usize) -> Option<(usize, usize)> {
+        let o = self.origin;
+        let k = linked::raster_disk_row(o.x, o.y, self.cell, self.nx, self.ny, c.x, c.y, r, j);
         (k != u64::MAX).then_some(((k & 0xffff_ffff) as usize, (k >> 32) as usize))
     }
 

@@ -65,6 +65,10 @@ fn vectors() {
         let (a, b, t) = (point(&mut r), point(&mut r), coordinate(&mut r));
         same(geom::lerp(a, b, t), a.lerp(b, t));
         same(geom::normalized(a), a.normalized());
+        same(geom::perp(a), a.perp());
+        assert_eq!(geom::dot(a, b).bits(), a.dot(b).bits());
+        assert_eq!(geom::cross(a, b).bits(), a.cross(b).bits());
+        assert_eq!(geom::length(a).bits(), a.length().bits());
         assert_eq!(geom::distance(a, b).bits(), a.distance(b).bits());
         let turn = r.below(1 << 53) as f64 / (1u64 << 53) as f64 * std::f64::consts::TAU;
         same(geom::from_angle(turn), Vec2::from_angle(turn));

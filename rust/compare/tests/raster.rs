@@ -85,6 +85,8 @@ fn disks() {
     each(32, CALLS / 4, |r, mut stock, mut grid| {
         for _ in 0..4 {
             let (c, rad) = (point(r, &grid), radius(r, &grid));
+            let j = r.below(grid.ny as u64) as usize;
+            assert_eq!(stock.disk_row(c, rad, j), grid.disk_row(c, rad, j), "{c:?} {rad} {j}");
             assert_eq!(stock.count_disk(c, rad), grid.count_disk(c, rad), "{c:?} {rad} {grid:?}");
             assert_eq!(stock.clear_disk(c, rad), grid.clear_disk(c, rad), "{c:?} {rad}");
             same_map(&stock, &grid);
