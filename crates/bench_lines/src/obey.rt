@@ -50,10 +50,7 @@ fn grid_of(nx: usize, ny: usize) -> Grid
     ensures { λ r. ⌜ r ≡ gridFor nx ny ⌝ }
 {
     Grid {
-        origin: Vec2 {
-            x: 0.0,
-            y: 0.0,
-        },
+        origin: Vec2 { x: 0.0, y: 0.0 },
         cell: 1.0,
         nx,
         ny,
