@@ -1,0 +1,3 @@
+pub mod CondLaws
+pub mod LineLaws
+pub mod ObeyLaws

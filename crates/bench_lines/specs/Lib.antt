@@ -1,0 +1,5 @@
+-- What the contracts of `bench_lines` cite.
+pub mod Words
+pub mod Line
+pub mod Obey
+pub mod Reader
