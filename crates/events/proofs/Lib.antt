@@ -1,8 +1,11 @@
--- `TrialLaws`: a pass with its log clears what the replay clears. `ReplayLaws`: one more row. `Demand`: the theorem over every list of events. `WayLaws`:
--- several links at once. `LentLaws`: the lent slices hold a list. `ReadLaws`: read row by row. `PassLaws`: a pass point by point, and from its triples.
+-- `TrialLaws`: a pass with its log clears what the replay clears. `ReplayLaws`: one more row. `Demand`: the theorem over every list of events. `GrowLaws`:
+-- such a list grows at its end. `Example`: one computed. `WayLaws`: several links at once. `LentLaws`: the lent slices hold a list. `ReadLaws`: read row by
+-- row. `PassLaws`: a pass point by point, and from its triples.
 pub mod TrialLaws
 pub mod ReplayLaws
 pub mod Demand
+pub mod GrowLaws
+pub mod Example
 pub mod WayLaws
 pub mod LentLaws
 pub mod ReadLaws

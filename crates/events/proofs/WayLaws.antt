@@ -7,8 +7,8 @@ use mathlib.Core.List.{List, [], _∷_, _++_, map, append-nil, append-assoc}
 use mathlib.Core.Option.{Option, some}
 use Rattle.raster.specs.Log.{Stock}
 use Rattle.geom.specs.declared.vec2.Vec2.{Vec2}
-use Rattle.events.specs.Chunk.{Chunk, link, Job}
-use Rattle.events.specs.Events.{linked, State, state, putBackAll, takeAgain, step, steps, LegalFrom}
+use Rattle.events.specs.Chunk.{Chunk, plunge, link, Job}
+use Rattle.events.specs.Events.{linked, plunged, noWay, State, state, putBackAll, takeAgain, step, steps, LegalFrom}
 
 -- where a way leaves the tool
 abbrev pub wayLast : Option Vec2 → List Vec2 → Option Vec2
@@ -29,6 +29,12 @@ module _ (j : Job) where
       ap (λ (t : State). steps j t (map linked ps)) (one-link s e p)
       ∙ way-is ps (state (s .stock) (s .rows ++ (link p ∷ [])) (some p) (s .trial)) e
       ∙ ap (λ (l : List Chunk). state (takeAgain (putBackAll (s .stock))) l (wayLast (some p) ps) (s .trial)) (append-assoc (s .rows) (link p ∷ []) (map link ps))
+
+  -- a plunge for want of a way, between one undoing and one clearing again
+  pub no-way-is : (p : Vec2) (s : State) → takeAgain (putBackAll (s .stock)) ≡ s .stock
+      → steps j s (noWay p ∷ plunged p ∷ []) ≡ state (takeAgain (putBackAll (s .stock))) (s .rows ++ (plunge p ∷ [])) (some p) (s .trial)
+  unfolding step steps
+  no-way-is p s e = ap (λ (k : Stock). state (takeAgain (putBackAll k)) (s .rows ++ (plunge p ∷ [])) (some p) (s .trial)) e
 
   -- every feed of a way from p passes its samples on the map m
   abbrev pub WayChecked : List ℕ → Vec2 → List Vec2 → Type 0

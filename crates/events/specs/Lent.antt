@@ -116,13 +116,16 @@ decode n rows triples = cond (leb (n * 3) (length rows)) (readChunks (readRows n
 
 -- ---- the slices while planning: their first parts are a list's rows and triples, and what stands behind is free
 
+abbrev pub HoldsRows : List ℕ → List Chunk → Type 0
+HoldsRows r cs = take (length cs * 3) r ≡ flatRows (rowsFrom 0 cs)
+
 pub record Holds (r : List ℕ) (t : List Float) (cs : List Chunk) : Type 0 where
-  pub rows : take (length cs * 3) r ≡ flatRows (rowsFrom 0 cs)
+  pub rows : HoldsRows r cs
   pub triples : take (length (allTriples cs) * 3) t ≡ flatTriples (allTriples cs)
 
 -- the same with a pass on trial, whose triples stand right behind the listed ones
 pub record HoldsTrial (r : List ℕ) (t : List Float) (cs : List Chunk) (ps : List Point) : Type 0 where
-  pub rows : take (length cs * 3) r ≡ flatRows (rowsFrom 0 cs)
+  pub rows : HoldsRows r cs
   pub triples : take ((length (allTriples cs) + length ps) * 3) t ≡ flatTriples (allTriples cs ++ map pointTriple ps)
 
 -- three numbers at i
@@ -135,6 +138,6 @@ setRow n r l = set3 (n * 3) (r .kind) (r .first) (r .count) l
 abbrev pub setTriple : ℕ → Triple → List Float → List Float
 setTriple n t l = set3 (n * 3) (t .x) (t .y) (t .value) l
 
--- triple t comes to stand at k, and the n triples of the pass on trial move up by one
-unfoldable pub gapTriple : ℕ → ℕ → Triple → List Float → List Float
-gapTriple k n t l = take (k * 3) l ++ (flatTriples (t ∷ []) ++ (take (n * 3) (drop (k * 3) l) ++ drop ((k + n + 1) * 3) l))
+-- the triples new come to stand at k, and the n triples of the pass on trial move up behind them
+unfoldable pub gapTriples : ℕ → ℕ → List Triple → List Float → List Float
+gapTriples k n new l = take (k * 3) l ++ (flatTriples new ++ (take (n * 3) (drop (k * 3) l) ++ drop ((k + n + length new) * 3) l))
