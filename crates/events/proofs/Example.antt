@@ -6,7 +6,7 @@ use mathlib.Core.List.{List, [], _∷_}
 use Prim.Native.Nat.{ℕ}
 use lib.ListN.{length, replicate}
 use lib.Dec.{lit≤}
-use lib.Ieee.{Float, binary64, ofBits, ofInt, toBits, toUnsigned, round, add, sub, mul, div, lt, le, eq, neg, isNan}
+use lib.Ieee.{binary64, ofBits, ofInt, toBits, toUnsigned, round, add, sub, mul, div, lt, le, eq, neg, isNan}
 use Rattle.loops.specs.Loop.{turns, loop, any}
 use Rattle.loops.specs.Cells.{ones}
 use Rattle.numbers.specs.Order.{maxOf, isFinite}

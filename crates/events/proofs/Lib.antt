@@ -1,6 +1,6 @@
 -- `TrialLaws`: a pass with its log clears what the replay clears. `ReplayLaws`: one more row. `Demand`: the theorem over every list of events. `GrowLaws`:
 -- such a list grows at its end. `Example`: one computed. `WayLaws`: several links at once. `LentLaws`: the lent slices hold a list. `ReadLaws`: read row by
--- row. `PassLaws`: a pass point by point, and from its triples.
+-- row. `PassLaws`: a pass point by point, and from its triples. `ShiftLaws`: triples moved up in place.
 pub mod TrialLaws
 pub mod ReplayLaws
 pub mod Demand
@@ -10,3 +10,4 @@ pub mod WayLaws
 pub mod LentLaws
 pub mod ReadLaws
 pub mod PassLaws
+pub mod ShiftLaws

@@ -141,3 +141,12 @@ setTriple n t l = set3 (n * 3) (t .x) (t .y) (t .value) l
 -- the triples new come to stand at k, and the n triples of the pass on trial move up behind them
 unfoldable pub gapTriples : ℕ → ℕ → List Triple → List Float → List Float
 gapTriples k n new l = take (k * 3) l ++ (flatTriples new ++ (take (n * 3) (drop (k * 3) l) ++ drop ((k + n + length new) * 3) l))
+
+-- the n numbers from low on move up by d; what they leave behind stays till it is written over
+unfoldable pub shiftUp : ℕ → ℕ → ℕ → List Float → List Float
+shiftUp low n d l = take (low + d) l ++ (drop low (take (low + n) l) ++ drop (low + n + d) l)
+
+-- triples put one after another, from number k on
+unfoldable pub putAll : ℕ → List Triple → List Float → List Float
+putAll k [] l = l
+putAll k (t ∷ ts) l = putAll (k + 1) ts (setTriple k t l)

@@ -2,7 +2,7 @@
 ghost use mathlib.Core.Path.{_≡_};
 ghost use Prim.Native.Nat.{_+_, _*_, _≤_};
 ghost use lib.ListN.{length};
-ghost use Rattle.events.specs.Lent.{setRow, setTriple};
+ghost use Rattle.events.specs.Lent.{setRow, setTriple, shiftUp};
 ghost use Rattle.events.specs.Read.{spotAt, valueAt, readOne, readAt};
 use geom::vec2::Vec2;
 
@@ -36,6 +36,17 @@ pub fn put_triple(triples: &mut [f64], n: usize, p: Vec2, value: f64)
     triples[at] = p.x;
     triples[at + 1] = p.y;
     triples[at + 2] = value;
+}
+
+// The n numbers from low on move up by d, the last one first.
+pub fn shift_up(triples: &mut [f64], low: usize, n: usize, d: usize)
+    requires { ⌜ low + n + d ≤ length (now triples) ⌝ }
+    ensures { λ _. ⌜ now (triples .exit) ≡ shiftUp low n d (now (triples .entry)) ⌝ }
+{
+    for i in 0..n {
+        let k = low + n - 1 - i;
+        triples[k + d] = triples[k];
+    }
 }
 
 // The point of triple n.
