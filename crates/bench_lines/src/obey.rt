@@ -22,7 +22,6 @@ pub struct Bench {
 
 // Standing cells last.
 pub enum Answer {
-    Quiet,
     Started(usize),
     Removed(usize, usize),
     Restored(usize),
