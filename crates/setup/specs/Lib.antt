@@ -1,3 +1,4 @@
 -- What the contracts of `setup` cite.
+pub mod Layout
 pub mod Limits
 pub mod Place
