@@ -1,0 +1,141 @@
+-- The laws of chains: each turn uses one edge more, so that a chain ends and its points are no more than the edges it used. Assumes nothing.
+use mathlib.Core.Path.{_≡_, refl, sym, ap, _∙_, subst}
+use mathlib.Core.Bool.{Bool, true, false, cond, true≢false}
+use mathlib.Core.List.{List, [], _∷_, _++_, map}
+use Prim.Native.Nat.{ℕ, zero, suc, _+_, _-_, _*_, _≤_, _<_}
+use native.Mathlib.Omega.{arith}
+use lib.ListN.{length, getD, set, replicate, length-set, length-append, length-replicate, getD-replicate}
+use lib.Dec.{eqb, ltb}
+use Rattle.loops.specs.Loop.{turns, loop, Run, on, out, turn}
+use Rattle.loops.specs.Cells.{ones}
+use Rattle.loops.proofs.Cases.{by-cases, by-test, never}
+use Rattle.loops.proofs.CellLaws.{ones-le}
+use Rattle.geom.specs.declared.vec2.Vec2.{Vec2}
+use Rattle.contours.specs.March.{Each}
+use Rattle.contours.specs.declared.square.Segment.{Segment}
+use Rattle.contours.specs.Chain.{nothing, over, Tables, joined, blank, tablesOf, Leads, Walk, Chain, walk, ended, stepTo, follow, chainOf, walkFrom, chainFrom, near, thinned, deduped}
+
+-- ---- a number that is set
+
+-- what holds of the number that is set and of those that were there holds of each
+pub set-either : {A : Type 0} (P : A → Type 0) (l : List A) (i j : ℕ) (v d : A) → P v → P (getD l j d) → P (getD (set l i v) j d)
+set-either P [] i j v d p q = q
+set-either P (x ∷ l) zero zero v d p q = p
+set-either P (x ∷ l) zero (suc j) v d p q = q
+set-either P (x ∷ l) (suc i) zero v d p q = q
+set-either P (x ∷ l) (suc i) (suc j) v d p q = set-either P l i j v d p q
+
+-- a mark more is one more
+pub ones-mark : (m : List ℕ) (k : ℕ) → k < length m → eqb (getD m k 0) 1 ≡ false → ones (set m k 1) ≡ ones m + 1
+unfolding ones
+ones-mark [] k h e = absurd (let z : ⊥ = omega arith in z)
+ones-mark (x ∷ m) zero h e = rw e (omega arith)
+ones-mark (x ∷ m) (suc k) h e = omega (arith, ones-mark m k (omega arith) e)
+
+-- ---- a list gone over
+
+module _ {A S : Type 0} (f : A → S → S) where
+  -- one more at the end
+  pub over-more : (l : List A) (x : A) (s : S) → f x (over f l s) ≡ over f (l ++ (x ∷ [])) s
+  unfolding over
+  over-more [] x s = refl
+  over-more (y ∷ l) x s = over-more l x (f y s)
+
+  -- what each turn keeps, the whole keeps
+  pub over-keeps : (Q : A → Type 0) (P : S → Type 0) → ((x : A) (s : S) → Q x → P s → P (f x s)) → (l : List A) → Each Q l → (s : S) → P s → P (over f l s)
+  unfolding over Each
+  over-keeps Q P h [] e s p = p
+  over-keeps Q P h (x ∷ l) e s p = over-keeps Q P h l (e .1) (f x s) (h x s (e .0) p)
+
+-- ---- the tables
+
+module _ (P : ℕ → Type 0) (e : ℕ) where
+  leads-next : (s : Segment) (t : Tables) → P (s .to .0) → Leads P (t .next) → Leads P (joined s t .next)
+  unfolding joined
+  leads-next s t p l = record {
+    to = λ i b. set-either (λ (v : ℕ). eqb v nothing ≡ false → P v) (t .next) (s .from .0) i (s .to .0) 0 (λ d. p) (l .to i (omega (arith, length-set (t .next) (s .from .0) (s .to .0))));
+  }
+
+  leads-blank : Leads P (blank e .next)
+  leads-blank = record {
+    to = λ i b d. never (sym d ∙ ap (λ (v : ℕ). eqb v nothing) (getD-replicate e i nothing 0 (omega (arith, length-replicate e nothing))));
+  }
+
+  -- where the segments lead, the table leads
+  pub tables-lead : (segs : List Segment) → Each (λ (s : Segment). P (s .to .0)) segs → Leads P (tablesOf e segs .next)
+  unfolding tablesOf
+  tables-lead segs h = over-keeps joined (λ (s : Segment). P (s .to .0)) (λ (t : Tables). Leads P (t .next)) leads-next segs h (blank e) leads-blank
+
+-- ---- a chain
+
+-- what a walk over e edges keeps after its turns: an edge more is used and listed at each
+pub record Walked (e from turns : ℕ) (w : Walk) : Type 0 where
+  pub long : length (w .marks) ≡ e
+  pub used : ones (w .marks) ≡ from + turns + 1
+  pub listed : length (w .ids) ≡ turns + 1
+  pub here : w .cur < e
+
+pub walked-more : (e from k n : ℕ) (w : Walk) → Walked e from k w → n < e → eqb (getD (w .marks) n 0) 1 ≡ false → Walked e from (k + 1) (stepTo n w)
+walked-more e from k n w h b d =
+    let l = h .long in
+    let u = h .used in
+    let s = h .listed in
+    record {
+      long = length-set (w .marks) n 1 ∙ l;
+      used = omega (arith, ones-mark (w .marks) n (omega arith) d);
+      listed = omega (arith, length-append (w .ids) (n ∷ []));
+      here = b;
+    }
+
+pub walked-none : (e s : ℕ) (marks : List ℕ) → length marks ≡ e → s < e → eqb (getD marks s 0) 1 ≡ false → Walked e (ones marks) 0 (walkFrom marks s)
+walked-none e s marks l b d = record {
+  long = length-set marks s 1 ∙ l;
+  used = omega (arith, ones-mark marks s (omega arith) d);
+  listed = refl;
+  here = b;
+}
+
+-- there is an edge left for a turn
+pub walked-room : (e from k : ℕ) (w : Walk) → Walked e from k w → k < e
+walked-room e from k w h = let l = h .long in let u = h .used in omega (arith, ones-le (w .marks))
+
+-- a walk that is still on has walked as many turns
+abbrev Still : ℕ → ℕ → ℕ → Run Walk Chain → Type 0
+Still e from k (on w) = Walked e from k w
+Still e from k (out c) = Unit {0}
+
+still-follow : (next : List ℕ) (e from s i k : ℕ) (w : Walk) → length next ≡ e → Leads (λ (n : ℕ). n < e) next → Walked e from k w → Still e from (k + 1) (follow next s i w)
+unfolding follow
+still-follow next e from s i k w z l h =
+    let n = getD next (w .cur) 0 in
+    by-test (Still e from (k + 1)) (eqb n nothing) _ _ (λ a. tt)
+    (λ a. by-test (Still e from (k + 1)) (eqb n s) _ _ (λ b. tt)
+    (λ b. by-test (Still e from (k + 1)) (eqb (getD (w .marks) n 0) 1) _ _ (λ d. tt) (λ d. walked-more e from k n w h (l .to (w .cur) (omega (arith, h .here)) a) d)))
+
+still-turn : (next : List ℕ) (e from s i k : ℕ) (r : Run Walk Chain) → length next ≡ e → Leads (λ (n : ℕ). n < e) next → Still e from k r → Still e from (k + 1) (turn (follow next s) i r)
+unfolding turn
+still-turn next e from s i k (on w) z l h = still-follow next e from s i k w z l h
+still-turn next e from s i k (out c) z l h = tt
+
+still-turns : (next : List ℕ) (e from s k : ℕ) (r : Run Walk Chain) → length next ≡ e → Leads (λ (n : ℕ). n < e) next → Still e from 0 r → Still e from k (turns (turn (follow next s)) 0 k r)
+unfolding turns
+still-turns next e from s zero r z l h = h
+still-turns next e from s (suc k) r z l h =
+    subst (λ (j : ℕ). Still e from j (turn (follow next s) (0 + k) (turns (turn (follow next s)) 0 k r))) (let y : k + 1 ≡ suc k = omega arith in y)
+    (still-turn next e from s (0 + k) k _ z l (still-turns next e from s k r z l h))
+
+-- a chain ends before its turns do
+pub record Ends (next : List ℕ) (e : ℕ) (marks : List ℕ) (s : ℕ) : Type 0 where
+  pub chain : Chain
+  pub is : loop (turn (follow next s)) 0 e (on (walkFrom marks s)) ≡ out chain
+
+ends-by : (next : List ℕ) (e from : ℕ) (marks : List ℕ) (s : ℕ) (r : Run Walk Chain) → loop (turn (follow next s)) 0 e (on (walkFrom marks s)) ≡ r → Still e from e r → Ends next e marks s
+ends-by next e from marks s (on w) d h = absurd (let z : ⊥ = omega (arith, walked-room e from e w h) in z)
+ends-by next e from marks s (out c) d h = record { chain = c; is = d }
+
+pub chain-ends : (next : List ℕ) (e : ℕ) (marks : List ℕ) (s : ℕ) → length next ≡ e → Leads (λ (n : ℕ). n < e) next → length marks ≡ e → s < e → eqb (getD marks s 0) 1 ≡ false → Ends next e marks s
+unfolding loop
+chain-ends next e marks s z l h b d =
+    ends-by next e (ones marks) marks s _ refl
+    (subst (λ (n : ℕ). Still e (ones marks) e (turns (turn (follow next s)) 0 n (on (walkFrom marks s)))) (let y : e ≡ e - 0 = omega arith in y)
+    (still-turns next e (ones marks) s e _ z l (walked-none e s marks h b d)))

@@ -1,0 +1,88 @@
+-- Two passes over the segments give the pieces: open chains, then loops. Assumes nothing.
+use mathlib.Core.Path.{_≡_, refl, sym, ap, _∙_, subst}
+use mathlib.Core.Bool.{Bool, true, false}
+use mathlib.Core.List.{List, []}
+use Prim.Native.Nat.{ℕ, _+_, _*_, _≤_, _<_}
+use native.Mathlib.Omega.{arith}
+use lib.ListN.{length}
+use lib.Ieee.{Float}
+use Rattle.loops.proofs.CellLaws.{ones-le}
+use Rattle.geom.specs.declared.vec2.Vec2.{Vec2}
+use Rattle.raster.specs.declared.grid.Grid.{Grid}
+use Rattle.contours.specs.Edge.{Between}
+use Rattle.contours.specs.Square.{Joins}
+use Rattle.contours.specs.March.{segmentsOf, march, Each}
+use Rattle.contours.specs.Piece.{Piece, piecesAt}
+use Rattle.contours.specs.Chain.{Tables, tables, tablesOf, Leads, edge, pointAt, Chains, chains, chainAll, piecesOf, contoursOf}
+use Rattle.contours.specs.Traced.{segmentsIn, nextIn, rowsIn, piecesIn, segmentsAt, Packed, Tracing, Traced, Sized, Tabled, Contoured}
+use Rattle.contours.specs.declared.chain.Count.{Count}
+use Rattle.contours.specs.declared.square.Segment.{Segment}
+use Rattle.contours.proofs.JoinLaws.{march-joins}
+use Rattle.contours.proofs.SegmentLaws.{each-all}
+use Rattle.contours.proofs.ChainLaws.{tables-lead}
+
+abbrev zero-count : Count
+zero-count = record { pieces = 0; points = 0 }
+
+module _ (g : Grid) (f : List Float) (level : Float) (n m : ℕ) (w m₁ : List ℕ) (h : Tabled g n (march g f level) m w m₁) where
+  -- the segments join edges of the grid
+  pub tabled-joins : Each (Joins g) (segmentsAt n m w)
+  tabled-joins = subst (Each (Joins g)) (sym (h .is)) (march-joins g f level)
+
+  leads : Leads (λ (e : ℕ). Between g (edge e)) (nextIn n w)
+  leads =
+      subst (Leads (λ (e : ℕ). Between g (edge e))) (sym (ap (λ (t : Tables). t .next) (h .table)))
+      (tables-lead (λ (e : ℕ). Between g (edge e)) (2 * n) (march g f level) (each-all (Joins g) _ (λ s j. j .to) (march g f level) (march-joins g f level)))
+
+  -- nothing is traced yet
+  pub tracing-none : (pts : List Float) → 4 * n ≤ length pts → Tracing g n w m₁ pts zero-count
+  tracing-none pts l = record {
+    cells = h .sized .cells;
+    words-long = h .sized .words-long;
+    marks-long = h .sized .marks-long;
+    pts-long = l;
+    leads = leads;
+    packed = record { order = λ k l a b. absurd (let z : ⊥ = omega arith in z); within = λ k a. absurd (let z : ⊥ = omega arith in z) };
+    pairs = omega arith;
+    room = omega arith;
+  }
+
+  abbrev at : ℕ → Vec2
+  at = pointAt g f level
+
+  abbrev segs : List Segment
+  segs = march g f level
+
+  module _ (pts : List Float) (w₂ m₂ : List ℕ) (p₂ : List Float) (c₂ : Count) (t : Traced g n (chainAll at (nextIn n w) (2 * n) true (segmentsAt n m w) (chains m₁ (piecesIn n zero-count w pts))) w pts w₂ m₂ p₂ c₂) where
+    pub again-joins : Each (Joins g) (segmentsAt n m w₂)
+    again-joins = subst (λ (l : List ℕ). Each (Joins g) (segmentsOf m l)) (sym (t .segments-kept)) tabled-joins
+
+    -- the chains after the first pass, by the definition's tables
+    first-is : chains m₂ (piecesIn n c₂ w₂ p₂) ≡ chainAll at (tablesOf (2 * n) segs .next) (2 * n) true segs (chains (tablesOf (2 * n) segs .marks) [])
+    unfolding piecesAt
+    first-is =
+        t .is
+        ∙ ap (λ (l : List Segment). chainAll at (nextIn n w) (2 * n) true l (chains m₁ [])) (h .is)
+        ∙ ap (λ (q : Tables). chainAll at (q .next) (2 * n) true segs (chains (q .marks) [])) (h .table)
+
+    pub contoured : (words : List ℕ) → length w ≡ length words → (w₃ m₃ : List ℕ) (p₃ : List Float) (c₃ : Count)
+        → Traced g n (chainAll at (nextIn n w₂) (2 * n) false (segmentsAt n m w₂) (chains m₂ (piecesIn n c₂ w₂ p₂))) w₂ p₂ w₃ m₃ p₃ c₃
+        → Contoured n (contoursOf g f level) words pts w₃ p₃ c₃
+    unfolding contoursOf piecesOf
+    contoured words l w₃ m₃ p₃ c₃ u =
+        let q = u .tracing in
+        let next : nextIn n w₂ ≡ tablesOf (2 * n) segs .next = t .next-kept ∙ ap (λ (k : Tables). k .next) (h .table) in
+        let list : segmentsAt n m w₂ ≡ segs = ap (segmentsOf m) (t .segments-kept) ∙ h .is in
+        record {
+          is = ap (λ (k : Chains). k .pieces)
+              (u .is
+              ∙ ap (chainAll at (nextIn n w₂) (2 * n) false (segmentsAt n m w₂)) first-is
+              ∙ ap (λ (x : List Segment). chainAll at (nextIn n w₂) (2 * n) false x (chainAll at (tablesOf (2 * n) segs .next) (2 * n) true segs (chains (tablesOf (2 * n) segs .marks) []))) list
+              ∙ ap (λ (x : List ℕ). chainAll at x (2 * n) false segs (chainAll at (tablesOf (2 * n) segs .next) (2 * n) true segs (chains (tablesOf (2 * n) segs .marks) []))) next)
+              ∙ ap (λ (k : ℕ). piecesOf at (2 * k) segs) (h .sized .cells);
+          packed = q .packed;
+          pieces-few = omega (arith, q .pairs, q .room, q .marks-long, ones-le m₃);
+          points-few = omega (arith, q .room, q .marks-long, ones-le m₃);
+          words-long = u .words-long ∙ t .words-long ∙ l;
+          pts-long = u .pts-long ∙ t .pts-long;
+        }

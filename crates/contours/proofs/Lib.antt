@@ -1,0 +1,19 @@
+-- The laws of `contours`, on the definitions alone.
+pub mod EdgeLaws
+pub mod NanLaws
+pub mod SquareLaws
+pub mod SegmentLaws
+pub mod JoinLaws
+pub mod MarchLaws
+pub mod PieceLaws
+pub mod ChainLaws
+pub mod DedupLaws
+pub mod FollowLaws
+pub mod TraceLaws
+pub mod FillLaws
+pub mod TableLaws
+pub mod TabulateLaws
+pub mod TourLaws
+pub mod ContourLaws
+pub mod StepLaws
+pub mod SmoothLaws

@@ -1,0 +1,73 @@
+-- The parts of the words: a next edge that is written changes its part alone, and segments are read from theirs. Assumes nothing.
+use mathlib.Core.Path.{_≡_, refl, sym, ap, _∙_, subst}
+use mathlib.Core.List.{List, [], _∷_, _++_}
+use Prim.Native.Nat.{ℕ, suc, _+_, _-_, _*_, _≤_, _<_}
+use native.Mathlib.Omega.{arith}
+use lib.ListN.{length, getD, set, take, drop, length-set}
+use lib.Seq.{getD-take, getD-drop, take-set-le, take-set-lt, drop-set-add}
+use Rattle.loops.specs.Regions.{within}
+use Rattle.contours.specs.Square.{segment}
+use Rattle.contours.specs.March.{segmentAt, segmentsOf, Each}
+use Rattle.contours.specs.Chain.{over, Tables, tables, joined, edge}
+use Rattle.contours.specs.Traced.{segmentsIn, nextIn, segmentsAt, Joined}
+use Rattle.contours.specs.declared.square.Segment.{Segment}
+use Rattle.contours.proofs.SegmentLaws.{each-segment}
+use Rattle.contours.proofs.ChainLaws.{over-more}
+
+-- ---- a number that is set in a slice, in its parts
+
+module _ {A : Type 0} (w : List A) (v : A) where
+  pub set-within : (a e i : ℕ) → i < e - a → within a e (set w (a + i) v) ≡ set (within a e w) i v
+  unfolding within
+  set-within a e i h = ap (take (e - a)) (drop-set-add a w i v) ∙ take-set-lt (e - a) (drop a w) i v h
+
+  pub set-behind : (a e i : ℕ) → a ≤ e → e ≤ i → within a e (set w i v) ≡ within a e w
+  unfolding within
+  set-behind a e i h k =
+      ap (λ (j : ℕ). take (e - a) (drop a (set w j v))) (let z : i ≡ a + (i - a) = omega arith in z)
+      ∙ ap (take (e - a)) (drop-set-add a w (i - a) v)
+      ∙ take-set-le (e - a) (drop a w) (i - a) v (omega arith)
+
+front-get : (e k : ℕ) (w : List ℕ) → k < e → getD (within 0 e w) k 0 ≡ getD w k 0
+unfolding within
+front-get e k w h = getD-take (e - 0) (drop 0 w) k 0 (omega arith) ∙ getD-drop 0 w k 0 ∙ ap (λ (i : ℕ). getD w i 0) (let z : 0 + k ≡ k = omega arith in z)
+
+-- ---- segments
+
+-- segment k is read where it stands
+pub segment-read : (n k : ℕ) (w₀ w : List ℕ) → segmentsIn n w ≡ segmentsIn n w₀ → 2 * k + 1 < 4 * n → segmentAt (segmentsIn n w₀) k ≡ segment (edge (getD w (2 * k) 0)) (edge (getD w (2 * k + 1) 0))
+unfolding segmentAt
+segment-read n k w₀ w e h =
+    ap (λ (l : List ℕ). segment (edge (getD l (2 * k) 0)) (edge (getD l (2 * k + 1) 0))) (sym e)
+    ∙ ap (λ (a : ℕ). segment (edge a) (edge (getD (segmentsIn n w) (2 * k + 1) 0))) (front-get (4 * n) (2 * k) w (omega arith))
+    ∙ ap (λ (b : ℕ). segment (edge (getD w (2 * k) 0)) (edge b)) (front-get (4 * n) (2 * k + 1) w (omega arith))
+
+-- and what holds of the segments holds of it
+pub segment-each : (P : Segment → Type 0) (n m k : ℕ) (w₀ w : List ℕ) → Each P (segmentsAt n m w₀) → segmentsIn n w ≡ segmentsIn n w₀ → m ≤ 2 * n → k < m
+    → P (segment (edge (getD w (2 * k) 0)) (edge (getD w (2 * k + 1) 0)))
+segment-each P n m k w₀ w h e f b = subst P (segment-read n k w₀ w e (omega arith)) (each-segment P m (segmentsIn n w₀) h k b)
+
+-- ---- the tables
+
+pub joined-none : (n : ℕ) (w m : List ℕ) → Joined n 0 w m w m
+unfolding over segmentsOf
+joined-none n w m = record { is = refl; kept = refl; words-long = refl; marks-long = refl }
+
+pub joined-more : (n k : ℕ) (w₀ m₀ w m : List ℕ) → Joined n k w₀ m₀ w m → 2 * k + 1 < 4 * n → getD w (2 * k) 0 < 2 * n
+    → Joined n (k + 1) w₀ m₀ (set w (4 * n + getD w (2 * k) 0) (getD w (2 * k + 1) 0)) (set m (getD w (2 * k + 1) 0) 2)
+unfolding joined segmentsOf
+joined-more n k w₀ m₀ w m h b d =
+    let from = getD w (2 * k) 0 in
+    let to = getD w (2 * k + 1) 0 in
+    let s = segmentAt (segmentsIn n w₀) k in
+    let t₀ = tables (nextIn n w₀) m₀ in
+    record {
+      is = ap (λ (l : List ℕ). tables l (set m to 2)) (set-within w to (4 * n) (6 * n) from (omega arith))
+          ∙ ap (λ (q : Segment). joined q (tables (nextIn n w) m)) (sym (segment-read n k w₀ w (h .kept) b))
+          ∙ ap (joined s) (h .is)
+          ∙ over-more joined (segmentsAt n k w₀) s t₀
+          ∙ ap (λ (j : ℕ). over joined (segmentsOf j (segmentsIn n w₀)) t₀) (let z : suc k ≡ k + 1 = omega arith in z);
+      kept = set-behind w to 0 (4 * n) (4 * n + from) (omega arith) (omega arith) ∙ h .kept;
+      words-long = length-set w (4 * n + from) to ∙ h .words-long;
+      marks-long = length-set m to 2 ∙ h .marks-long;
+    }

@@ -1,0 +1,33 @@
+-- The pieces of a contour, and how two lent slices hold them: rows of three numbers (first point, points, closed 0 or 1), and coordinates. Definitions only.
+use Prim.Native.Nat.{ℕ, zero, suc, _+_, _*_}
+use mathlib.Core.Bool.{Bool, cond}
+use mathlib.Core.List.{List, [], _∷_, _++_}
+use lib.ListN.{getD, set}
+use lib.Dec.{eqb}
+use lib.Ieee.{Float}
+use Rattle.geom.specs.Points.{points}
+use Rattle.geom.specs.declared.vec2.Vec2.{Vec2}
+use Rattle.contours.specs.declared.piece.Row.{Row}
+
+-- points along a curve, which is closed or open
+pub record Piece : Type 0 where
+  pub points : List Vec2
+  pub closed : Bool
+
+abbrev pub row : ℕ → ℕ → Bool → Row
+row first points closed = record { first = first; points = points; closed = closed }
+
+unfoldable pub rowAt : List ℕ → ℕ → Row
+rowAt rows k = row (getD rows (3 * k) 0) (getD rows (3 * k + 1) 0) (eqb (getD rows (3 * k + 2) 0) 1)
+
+unfoldable pub putRow : ℕ → Row → List ℕ → List ℕ
+putRow k r rows = set (set (set rows (3 * k) (r .first)) (3 * k + 1) (r .points)) (3 * k + 2) (cond (r .closed) 1 0)
+
+-- the piece that a row stands for
+unfoldable pub pieceOf : Row → List Float → Piece
+pieceOf r pts = record { points = points (r .first) (r .points) pts; closed = r .closed }
+
+-- the pieces of the first m rows
+unfoldable pub piecesAt : ℕ → List ℕ → List Float → List Piece
+piecesAt zero rows pts = []
+piecesAt (suc m) rows pts = piecesAt m rows pts ++ (pieceOf (rowAt rows m) pts ∷ [])

@@ -1,0 +1,109 @@
+-- The chains in lent slices: three parts of one slice have the segments, the next edges and the rows of the pieces; marks and points are in slices of their own. Definitions only.
+use Prim.Native.Nat.{ℕ, _+_, _*_, _≤_, _<_}
+use mathlib.Core.Path.{_≡_}
+use mathlib.Core.List.{List}
+use mathlib.Core.Bool.{false}
+use lib.ListN.{length, getD}
+use lib.Dec.{eqb}
+use lib.Ieee.{Float}
+use Rattle.loops.specs.Regions.{within}
+use Rattle.loops.specs.Cells.{ones}
+use Rattle.geom.specs.declared.vec2.Vec2.{Vec2}
+use Rattle.raster.specs.declared.grid.Grid.{Grid}
+use Rattle.contours.specs.Edge.{Between}
+use Rattle.contours.specs.March.{segmentsOf, Each}
+use Rattle.contours.specs.declared.square.Segment.{Segment}
+use Rattle.contours.specs.Piece.{Piece, rowAt, piecesAt}
+use Rattle.contours.specs.Chain.{over, tables, joined, tablesOf, Leads, edge, Chains, chains, chained}
+use Rattle.contours.specs.declared.chain.Count.{Count}
+
+-- the parts for n cells
+abbrev pub segmentsIn : ℕ → List ℕ → List ℕ
+segmentsIn n words = within 0 (4 * n) words
+
+abbrev pub nextIn : ℕ → List ℕ → List ℕ
+nextIn n words = within (4 * n) (6 * n) words
+
+abbrev pub rowsIn : ℕ → List ℕ → List ℕ
+rowsIn n words = within (6 * n) (9 * n) words
+
+-- the pieces lie one behind the other, within the points
+pub record Packed (c : Count) (rows : List ℕ) : Type 0 where
+  pub order : (k l : ℕ) → k < l → l < c .pieces → rowAt rows k .first + rowAt rows k .points ≤ rowAt rows l .first
+  pub within : (k : ℕ) → k < c .pieces → rowAt rows k .first + rowAt rows k .points ≤ c .points
+
+-- Two points for each piece at least, and a used edge for each point: so neither rows nor points run out.
+pub record Tracing (g : Grid) (n : ℕ) (words marks : List ℕ) (pts : List Float) (c : Count) : Type 0 where
+  pub cells : n ≡ g .ny * g .nx
+  pub words-long : length words ≡ 9 * n
+  pub marks-long : length marks ≡ 2 * n
+  pub pts-long : 4 * n ≤ length pts
+  pub leads : Leads (λ (e : ℕ). Between g (edge e)) (nextIn n words)
+  pub packed : Packed c (rowsIn n words)
+  pub pairs : 2 * c .pieces ≤ c .points
+  pub room : c .points ≤ ones marks
+
+-- edge s is one of the grid, and not used
+pub record Startable (g : Grid) (marks : List ℕ) (s : ℕ) : Type 0 where
+  pub start : Between g (edge s)
+  pub unused : eqb (getD marks s 0) 1 ≡ false
+
+abbrev pub piecesIn : ℕ → Count → List ℕ → List Float → List Piece
+piecesIn n c words pts = piecesAt (c .pieces) (rowsIn n words) pts
+
+-- What is left of the slices: the chains are `after`, the segments and the next edges are as they were.
+pub record Traced (g : Grid) (n : ℕ) (after : Chains) (words : List ℕ) (pts : List Float) (words′ marks′ : List ℕ) (pts′ : List Float) (c : Count) : Type 0 where
+  pub is : chains marks′ (piecesIn n c words′ pts′) ≡ after
+  pub tracing : Tracing g n words′ marks′ pts′ c
+  pub segments-kept : segmentsIn n words′ ≡ segmentsIn n words
+  pub next-kept : nextIn n words′ ≡ nextIn n words
+  pub words-long : length words′ ≡ length words
+  pub pts-long : length pts′ ≡ length pts
+
+-- ---- the tables
+
+-- the m segments of the slice
+abbrev pub segmentsAt : ℕ → ℕ → List ℕ → List Segment
+segmentsAt n m words = segmentsOf m (segmentsIn n words)
+
+-- a segment of e edges
+pub record Below (e : ℕ) (s : Segment) : Type 0 where
+  pub from : s .from .0 < e
+  pub to : s .to .0 < e
+
+-- m segments of the edges of n cells, and room for the tables
+pub record Listed (n m : ℕ) (words marks : List ℕ) : Type 0 where
+  pub cells : n ≤ 1048576
+  pub words-long : length words ≡ 9 * n
+  pub marks-long : length marks ≡ 2 * n
+  pub few : m ≤ 2 * n
+  pub below : Each (Below (2 * n)) (segmentsAt n m words)
+
+-- the segments are in the tables, and as they were
+pub record Joined (n m : ℕ) (words marks words′ marks′ : List ℕ) : Type 0 where
+  pub is : tables (nextIn n words′) marks′ ≡ over joined (segmentsAt n m words) (tables (nextIn n words) marks)
+  pub kept : segmentsIn n words′ ≡ segmentsIn n words
+  pub words-long : length words′ ≡ length words
+  pub marks-long : length marks′ ≡ length marks
+
+-- the slices for the n cells of a grid
+pub record Sized (g : Grid) (n : ℕ) (words marks : List ℕ) : Type 0 where
+  pub cells : n ≡ g .ny * g .nx
+  pub words-long : length words ≡ 9 * n
+  pub marks-long : length marks ≡ 2 * n
+
+-- the m segments are the list `segs`, and the tables are theirs
+pub record Tabled (g : Grid) (n : ℕ) (segs : List Segment) (m : ℕ) (words marks : List ℕ) : Type 0 where
+  pub is : segmentsAt n m words ≡ segs
+  pub table : tables (nextIn n words) marks ≡ tablesOf (2 * n) segs
+  pub few : m ≤ 2 * n
+  pub sized : Sized g n words marks
+
+-- The pieces are the list `l`, one behind the other: at most n of them, and at most 2 n points. The slices keep their lengths.
+pub record Contoured (n : ℕ) (l : List Piece) (words : List ℕ) (pts : List Float) (words′ : List ℕ) (pts′ : List Float) (c : Count) : Type 0 where
+  pub is : piecesIn n c words′ pts′ ≡ l
+  pub packed : Packed c (rowsIn n words′)
+  pub pieces-few : c .pieces ≤ n
+  pub points-few : c .points ≤ 2 * n
+  pub words-long : length words′ ≡ length words
+  pub pts-long : length pts′ ≡ length pts

@@ -1,0 +1,195 @@
+// Segments joined end to end into pieces.
+ghost use mathlib.Core.Path.{_≡_};
+ghost use Prim.Native.Nat.{_+_, _*_, _≤_, _<_};
+ghost use lib.ListN.{length};
+ghost use Rattle.raster.specs.Grid.{Over};
+ghost use Rattle.contours.specs.Chain.{keptOf, putKept, pointAt, Chaining, Followed, edge, chains, chained, startsAt, startAt, chainAll};
+ghost use Rattle.contours.specs.Traced.{nextIn, segmentsAt, piecesIn, Startable, Tracing, Traced};
+ghost use Rattle.contours.specs.Edge.{Between};
+ghost use Rattle.contours.specs.Square.{Joins};
+ghost use Rattle.contours.specs.March.{Each};
+use super::edge::EdgeNo;
+use super::edge::crossing;
+use super::piece::Row;
+use super::piece::put_piece;
+use super::tables::NOTHING;
+use geom::vec2::Vec2;
+use raster::grid::Grid;
+
+// How many points of a chain are kept, and the last of them.
+pub struct Trail {
+    pub kept: usize,
+    pub last: Vec2,
+}
+
+// p is the next point, unless it is near the last one.
+fn extend(pts: &mut [f64], first: usize, t: Trail, p: Vec2) -> Trail
+    requires { ⌜ 2 * (first + t .kept) + 1 < length (now pts) ⌝ }
+    ensures { λ r. ⌜ (r ≡ keptOf p t) × (now (pts .exit) ≡ putKept first p t (now (pts .entry))) ⌝ }
+{
+    let last = t.last;
+    if p.distance(last) < 1e-9 {
+        return t;
+    }
+    let k = t.kept;
+    geom::points::put(pts, first + k, p);
+    Trail {
+        kept: k + 1,
+        last: p,
+    }
+}
+
+// A chain's points, and whether it comes back to its first edge.
+pub struct Chained {
+    pub kept: usize,
+    pub closed: bool,
+}
+
+// Follows the segments from edge s on, marks the edges used, and writes its points from point `first` on.
+fn chain(
+    g: Grid,
+    f: &[f32],
+    level: f32,
+    next: &[u32],
+    marks: &mut [u8],
+    pts: &mut [f64],
+    first: usize,
+    s: u32,
+) -> Chained
+    requires { ⌜ Over g (length (now f)) ⌝ }
+    requires { ⌜ Chaining g (now next) (now marks) (now pts) first s ⌝ }
+    ensures { λ r. ⌜ Followed (pointAt g (now (f .entry)) level) (now (next .entry)) (now (marks .entry)) (now (pts .entry)) first s (now (marks .exit)) (now (pts .exit)) (r .kept) (r .closed) ⌝ }
+{
+    let mut cur = s as usize;
+    marks[cur] = 1;
+    let p = crossing(g, f, level, EdgeNo(s));
+    geom::points::put(pts, first, p);
+    let mut t = Trail { kept: 1, last: p };
+    loop {
+        let n = next[cur];
+        if n == NOTHING {
+            return Chained {
+                kept: t.kept,
+                closed: false,
+            };
+        }
+        if n == s {
+            return Chained {
+                kept: t.kept,
+                closed: true,
+            };
+        }
+        cur = n as usize;
+        if marks[cur] == 1 {
+            return Chained {
+                kept: t.kept,
+                closed: false,
+            };
+        }
+        marks[cur] = 1;
+        t = extend(pts, first, t, crossing(g, f, level, EdgeNo(n)));
+    }
+}
+
+// How many pieces there are, and points in all.
+pub struct Count {
+    pub pieces: usize,
+    pub points: usize,
+}
+
+// The chain from edge s on, a piece if it has two points.
+fn take_up(
+    g: Grid,
+    f: &[f32],
+    level: f32,
+    n: usize,
+    words: &mut [u32],
+    marks: &mut [u8],
+    pts: &mut [f64],
+    c: Count,
+    s: u32,
+) -> Count
+    requires { ⌜ Over g (length (now f)) ⌝ }
+    requires { ⌜ Tracing g n (now words) (now marks) (now pts) c ⌝ }
+    requires { ⌜ Startable g (now marks) s ⌝ }
+    ensures { λ r. ⌜ Traced g n (chained (pointAt g (now (f .entry)) level) (nextIn n (now (words .entry))) (2 * n) s (chains (now (marks .entry)) (piecesIn n c (now (words .entry)) (now (pts .entry))))) (now (words .entry)) (now (pts .entry)) (now (words .exit)) (now (marks .exit)) (now (pts .exit)) r ⌝ }
+{
+    let first = c.points;
+    let k = chain(g, f, level, &words[4 * n..6 * n], marks, pts, first, s);
+    let kept = k.kept;
+    if kept < 2 {
+        return c;
+    }
+    let pieces = c.pieces;
+    put_piece(
+        &mut words[6 * n..9 * n],
+        pieces,
+        Row {
+            first: first as u32,
+            points: kept as u32,
+            closed: k.closed,
+        },
+    );
+    Count {
+        pieces: pieces + 1,
+        points: first + kept,
+    }
+}
+
+// Whether a chain starts at an edge of this mark: at first only where nothing leads in, then wherever it is
+// not used.
+fn starts(first: bool, mark: u8) -> bool
+    ensures { λ b. ⌜ b ≡ startsAt first mark ⌝ }
+{
+    if first { mark == 0 } else { mark != 1 }
+}
+
+fn start_at(
+    g: Grid,
+    f: &[f32],
+    level: f32,
+    n: usize,
+    words: &mut [u32],
+    marks: &mut [u8],
+    pts: &mut [f64],
+    c: Count,
+    first: bool,
+    s: u32,
+) -> Count
+    requires { ⌜ Over g (length (now f)) ⌝ }
+    requires { ⌜ Tracing g n (now words) (now marks) (now pts) c ⌝ }
+    requires { ⌜ Between g (edge s) ⌝ }
+    ensures { λ r. ⌜ Traced g n (startAt (pointAt g (now (f .entry)) level) (nextIn n (now (words .entry))) (2 * n) first s (chains (now (marks .entry)) (piecesIn n c (now (words .entry)) (now (pts .entry))))) (now (words .entry)) (now (pts .entry)) (now (words .exit)) (now (marks .exit)) (now (pts .exit)) r ⌝ }
+{
+    if starts(first, marks[s as usize]) {
+        return take_up(g, f, level, n, words, marks, pts, c, s);
+    }
+    c
+}
+
+// A chain from the first edge of each of the m segments in turn.
+pub fn chain_all(
+    g: Grid,
+    f: &[f32],
+    level: f32,
+    n: usize,
+    m: usize,
+    words: &mut [u32],
+    marks: &mut [u8],
+    pts: &mut [f64],
+    so: Count,
+    first: bool,
+) -> Count
+    requires { ⌜ Over g (length (now f)) ⌝ }
+    requires { ⌜ m ≤ 2 * n ⌝ }
+    requires { ⌜ Each (Joins g) (segmentsAt n m (now words)) ⌝ }
+    requires { ⌜ Tracing g n (now words) (now marks) (now pts) so ⌝ }
+    ensures { λ r. ⌜ Traced g n (chainAll (pointAt g (now (f .entry)) level) (nextIn n (now (words .entry))) (2 * n) first (segmentsAt n m (now (words .entry))) (chains (now (marks .entry)) (piecesIn n so (now (words .entry)) (now (pts .entry))))) (now (words .entry)) (now (pts .entry)) (now (words .exit)) (now (marks .exit)) (now (pts .exit)) r ⌝ }
+{
+    let mut c = so;
+    for k in 0..m {
+        let s = words[2 * k];
+        c = start_at(g, f, level, n, words, marks, pts, c, first, s);
+    }
+    c
+}

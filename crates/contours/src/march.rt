@@ -1,0 +1,144 @@
+// Marching squares: the segments where a field crosses a level, in a lent slice. The edges that segment k
+// joins stand at 2 k and 2 k + 1.
+ghost use mathlib.Core.Path.{_≡_};
+ghost use Prim.Native.Nat.{_+_, _*_, _<_, _≤_};
+ghost use lib.ListN.{length};
+ghost use Rattle.raster.specs.Grid.{Over};
+ghost use Rattle.contours.specs.Square.{InGrid, Joins, directedOf};
+ghost use Rattle.contours.specs.March.{segmentAt, segmentsOf, putSegment, marchCode, marchSquare, marchRow, march, Gathered};
+use super::edge::EdgeNo;
+use super::square::Saddle;
+use super::square::Segment;
+use super::square::Square;
+use super::square::code_of;
+use super::square::cut;
+use super::square::directed;
+use super::square::edges_of;
+use super::square::has_nan;
+use super::square::joined;
+use super::square::saddle_of;
+use super::square::square_at;
+use raster::grid::Grid;
+
+// Segment k, read and written.
+pub fn read(segs: &[u32], k: usize) -> Segment
+    requires { ⌜ 2 * k + 1 < length (now segs) ⌝ }
+    ensures { λ s. ⌜ s ≡ segmentAt (now (segs .entry)) k ⌝ }
+{
+    let i = 2 * k;
+    Segment {
+        from: EdgeNo(segs[i]),
+        to: EdgeNo(segs[i + 1]),
+    }
+}
+
+fn put(segs: &mut [u32], k: usize, s: Segment)
+    requires { ⌜ 2 * k + 1 < length (now segs) ⌝ }
+    ensures { λ _. ⌜ now (segs .exit) ≡ putSegment k s (now (segs .entry)) ⌝ }
+{
+    let i = 2 * k;
+    segs[i] = s.from.0;
+    segs[i + 1] = s.to.0;
+}
+
+// Puts the segment behind n others, turned so that the higher field is on its right.
+fn push(g: Grid, f: &[f32], level: f32, q: Square, segs: &mut [u32], n: usize, s: Segment)
+    requires { ⌜ Over g (length (now f)) ⌝ }
+    requires { ⌜ InGrid g (q .i) (q .j) ⌝ }
+    requires { ⌜ Joins g s ⌝ }
+    requires { ⌜ 2 * n + 1 < length (now segs) ⌝ }
+    ensures { λ _. ⌜ now (segs .exit) ≡ putSegment n (directedOf g (now (f .entry)) level q s) (now (segs .entry)) ⌝ }
+{
+    let d = directed(g, f, level, q, s);
+    put(segs, n, d);
+}
+
+fn push_saddle(g: Grid, f: &[f32], level: f32, q: Square, segs: &mut [u32], n: usize, s: Saddle)
+    requires { ⌜ Over g (length (now f)) ⌝ }
+    requires { ⌜ InGrid g (q .i) (q .j) ⌝ }
+    requires { ⌜ Joins g (s .first) × Joins g (s .second) ⌝ }
+    requires { ⌜ 2 * n + 3 < length (now segs) ⌝ }
+    ensures { λ _. ⌜ now (segs .exit) ≡ putSegment (n + 1) (directedOf g (now (f .entry)) level q (s .second)) (putSegment n (directedOf g (now (f .entry)) level q (s .first)) (now (segs .entry))) ⌝ }
+{
+    let a = s.first;
+    let b = s.second;
+    push(g, f, level, q, segs, n, a);
+    push(g, f, level, q, segs, n + 1, b);
+}
+
+// Puts the segments of a code behind n others; how many there are then.
+fn push_code(
+    g: Grid,
+    f: &[f32],
+    level: f32,
+    q: Square,
+    segs: &mut [u32],
+    n: usize,
+    code: usize,
+) -> usize
+    requires { ⌜ Over g (length (now f)) ⌝ }
+    requires { ⌜ InGrid g (q .i) (q .j) ⌝ }
+    requires { ⌜ 2 * n + 3 < length (now segs) ⌝ }
+    ensures { λ r. ⌜ Gathered (marchCode g (now (f .entry)) level q code (segmentsOf n (now (segs .entry)))) (n + 2) (now (segs .entry)) r (now (segs .exit)) ⌝ }
+{
+    if (code == 0) | (code == 15) {
+        return n;
+    }
+    let e = edges_of(g, q.i, q.j);
+    if (code == 5) | (code == 10) {
+        let s = saddle_of(e, code, joined(q, level));
+        push_saddle(g, f, level, q, segs, n, s);
+        return n + 2;
+    }
+    let s = cut(e, code);
+    push(g, f, level, q, segs, n, s);
+    n + 1
+}
+
+fn march_square(
+    g: Grid,
+    f: &[f32],
+    level: f32,
+    segs: &mut [u32],
+    n: usize,
+    i: usize,
+    j: usize,
+) -> usize
+    requires { ⌜ Over g (length (now f)) ⌝ }
+    requires { ⌜ InGrid g i j ⌝ }
+    requires { ⌜ 2 * n + 3 < length (now segs) ⌝ }
+    ensures { λ r. ⌜ Gathered (marchSquare g (now (f .entry)) level i j (segmentsOf n (now (segs .entry)))) (n + 2) (now (segs .entry)) r (now (segs .exit)) ⌝ }
+{
+    let q = square_at(g, f, i, j);
+    if has_nan(q) {
+        return n;
+    }
+    let code = code_of(q, level);
+    push_code(g, f, level, q, segs, n, code)
+}
+
+fn march_row(g: Grid, f: &[f32], level: f32, segs: &mut [u32], n: usize, j: usize) -> usize
+    requires { ⌜ Over g (length (now f)) ⌝ }
+    requires { ⌜ j + 1 < g .ny ⌝ }
+    requires { ⌜ 2 * (n + 2 * g .nx) ≤ length (now segs) ⌝ }
+    ensures { λ r. ⌜ Gathered (marchRow g (now (f .entry)) level j (segmentsOf n (now (segs .entry)))) (n + 2 * g .nx) (now (segs .entry)) r (now (segs .exit)) ⌝ }
+{
+    let mut m = n;
+    for i in 0..g.nx - 1 {
+        m = march_square(g, f, level, segs, m, i, j);
+    }
+    m
+}
+
+// The segments of all squares, at most two of each, are the r first; the rest is as it comes.
+pub fn march(g: Grid, f: &[f32], level: f32, segs: &mut [u32]) -> usize
+    requires { ⌜ Over g (length (now f)) ⌝ }
+    requires { ⌜ 4 * (g .ny * g .nx) ≤ length (now segs) ⌝ }
+    ensures { λ r. ⌜ Gathered (march g (now (f .entry)) level) (2 * (g .ny * g .nx)) (now (segs .entry)) r (now (segs .exit)) ⌝ }
+{
+    let mut n = 0;
+    for j in 0..g.ny - 1 {
+        n = march_row(g, f, level, segs, n, j);
+    }
+    n
+}

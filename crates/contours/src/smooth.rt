@@ -1,0 +1,135 @@
+// Smoothing of traced curves: averaging with the neighbours takes out the raster's stair steps, then
+// points closer than a cell are dropped.
+ghost use mathlib.Core.Path.{_≡_};
+ghost use Prim.Native.Nat.{_+_, _*_, _≤_, _<_};
+ghost use lib.ListN.{length};
+ghost use Rattle.geom.specs.Points.{points};
+ghost use Rattle.contours.specs.Smooth.{meanOf, heldAt, averaged, nextOf, avg, averagePut, keptOf, kpt, keepPut, samePoint, resampled, smoothOf, Begins};
+use geom::points::put;
+use geom::region::vertex;
+use geom::vec2::Vec2;
+
+fn mean(p: Vec2, a: Vec2, b: Vec2) -> Vec2
+    ensures { λ r. ⌜ r ≡ meanOf p a b ⌝ }
+{
+    p.scale(0.5).add(a.add(b).scale(0.25))
+}
+
+// Whether point k of n is an end that is held.
+fn held(closed: bool, n: usize, k: usize) -> bool
+    requires { ⌜ 0 < n ⌝ }
+    ensures { λ r. ⌜ r ≡ heldAt closed n k ⌝ }
+{
+    if closed {
+        return false;
+    }
+    (k == 0) | (k == n - 1)
+}
+
+// The old point after point k of n.
+fn next(pts: &[f64], n: usize, k: usize, first: Vec2) -> Vec2
+    requires { ⌜ k < n ⌝ }
+    requires { ⌜ 2 * n ≤ length (now pts) ⌝ }
+    ensures { λ r. ⌜ r ≡ nextOf n k first (now (pts .entry)) ⌝ }
+{
+    if k + 1 == n {
+        return first;
+    }
+    vertex(pts, k + 1)
+}
+
+// Averages point k of n; `first` and `prev` are old values of points that are averaged already. The old
+// point k.
+fn average_at(pts: &mut [f64], n: usize, closed: bool, k: usize, first: Vec2, prev: Vec2) -> Vec2
+    requires { ⌜ k < n ⌝ }
+    requires { ⌜ 2 * n ≤ length (now pts) ⌝ }
+    ensures { λ p. ⌜ avg (now (pts .exit)) p ≡ averagePut closed n first k (avg (now (pts .entry)) prev) ⌝ }
+{
+    let p = vertex(pts, k);
+    if held(closed, n, k) {
+        return p;
+    }
+    let m = mean(p, prev, next(pts, n, k, first));
+    put(pts, k, m);
+    p
+}
+
+// One pass of averaging with the neighbours, in place.
+fn average(pts: &mut [f64], n: usize, closed: bool)
+    requires { ⌜ 0 < n ⌝ }
+    requires { ⌜ 2 * n ≤ length (now pts) ⌝ }
+    ensures { λ _. ⌜ Begins (averaged closed (points 0 n (now (pts .entry)))) n (now (pts .entry)) n (now (pts .exit)) ⌝ }
+{
+    let first = vertex(pts, 0);
+    let mut prev = vertex(pts, n - 1);
+    for k in 0..n {
+        prev = average_at(pts, n, closed, k, first, prev);
+    }
+}
+
+// Keeps point k as point `kept` if it is at least a cell from the one before; how many are kept.
+fn keep_at(pts: &mut [f64], cell: f64, k: usize, kept: usize) -> usize
+    requires { ⌜ (0 < kept) × (kept ≤ k) ⌝ }
+    requires { ⌜ 2 * k + 1 < length (now pts) ⌝ }
+    ensures { λ n. ⌜ kpt (now (pts .exit)) n ≡ keepPut cell k (kpt (now (pts .entry)) kept) ⌝ }
+{
+    let p = vertex(pts, k);
+    let last = vertex(pts, kept - 1);
+    if last.distance(p) >= cell {
+        put(pts, kept, p);
+        return kept + 1;
+    }
+    kept
+}
+
+// Drops points closer than a cell to the last one kept, in place; how many are kept.
+fn keep(pts: &mut [f64], n: usize, cell: f64) -> usize
+    requires { ⌜ 0 < n ⌝ }
+    requires { ⌜ 2 * n ≤ length (now pts) ⌝ }
+    ensures { λ r. ⌜ Begins (keptOf cell (points 0 n (now (pts .entry)))) n (now (pts .entry)) r (now (pts .exit)) ⌝ }
+{
+    let mut kept = 1;
+    for k in 1..n {
+        kept = keep_at(pts, cell, k, kept);
+    }
+    kept
+}
+
+fn same(a: Vec2, b: Vec2) -> bool
+    ensures { λ r. ⌜ r ≡ samePoint a b ⌝ }
+{
+    (a.x == b.x) & (a.y == b.y)
+}
+
+// Points at least a cell apart; an open piece keeps its end.
+fn resample(pts: &mut [f64], n: usize, closed: bool, cell: f64) -> usize
+    requires { ⌜ 1 < n ⌝ }
+    requires { ⌜ 2 * n ≤ length (now pts) ⌝ }
+    ensures { λ r. ⌜ Begins (resampled closed cell (points 0 n (now (pts .entry)))) n (now (pts .entry)) r (now (pts .exit)) ⌝ }
+{
+    let end = vertex(pts, n - 1);
+    let kept = keep(pts, n, cell);
+    if closed {
+        return kept;
+    }
+    let last = vertex(pts, kept - 1);
+    if same(last, end) {
+        return kept;
+    }
+    put(pts, kept, end);
+    kept + 1
+}
+
+// Smooths the n points; how many are left.
+pub fn smooth(pts: &mut [f64], n: usize, closed: bool, cell: f64) -> usize
+    requires { ⌜ 2 * n ≤ length (now pts) ⌝ }
+    ensures { λ r. ⌜ Begins (smoothOf closed cell (points 0 n (now (pts .entry)))) n (now (pts .entry)) r (now (pts .exit)) ⌝ }
+{
+    if n < 3 {
+        return n;
+    }
+    for t in 0..3usize {
+        average(pts, n, closed);
+    }
+    resample(pts, n, closed, cell)
+}
