@@ -1,5 +1,6 @@
 // The functions of the layers under C names, for the comparison with the Rust (rust/compare). What a
 // station links is another crate.
+pub mod of_contours;
 pub mod of_distance;
 pub mod of_geom;
 pub mod of_links;

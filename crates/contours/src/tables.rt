@@ -36,8 +36,9 @@ fn join(n: usize, m: usize, words: &mut [u32], marks: &mut [u8])
 {
     let next = 4 * n;
     for k in 0..m {
-        let from = words[2 * k] as usize;
-        let to = words[2 * k + 1];
+        let i = 2 * k;
+        let from = words[i] as usize;
+        let to = words[i + 1];
         words[next + from] = to;
         marks[to as usize] = 2;
     }

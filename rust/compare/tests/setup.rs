@@ -1,45 +1,9 @@
 //! Limits, places and straight links on the planners of generated jobs, some with cuts made in the map.
 use compare::bits::Bits;
-use compare::geom::Lent;
+use compare::planners::{each, point};
 use compare::setup;
-use oracle::entry;
-use oracle::generate::{self, Rng};
-use oracle::hooks::Hooks;
-use oracle::planner::Planner;
-use oracle::vec2::{Vec2, v2};
-
-const JOBS: u64 = 60;
-
-fn point(r: &mut Rng, p: &Planner) -> Vec2 {
-    let o = p.m.origin;
-    let (w, h) = (p.nx as f64 * p.cell, p.ny as f64 * p.cell);
-    match r.below(3) {
-        0 => p.m.center(r.below(p.nx as u64) as usize, r.below(p.ny as u64) as usize),
-        _ => v2(o.x + r.range(-0.05, 1.05) * w, o.y + r.range(-0.05, 1.05) * h),
-    }
-}
-
-/// Calls `check` with the planner of each accepted job, its map partly cleared.
-fn each(mut check: impl FnMut(&mut Rng, &Planner, &Lent)) {
-    let mut r = Rng(41);
-    let mut jobs = 0;
-    for seed in 0..JOBS {
-        let (job, _) = generate::job(seed, None).unwrap();
-        if entry::refused(&job).is_some() {
-            continue;
-        }
-        jobs += 1;
-        let (region, stock) = job.regions();
-        let mut hooks = Hooks::new(job.lent_triples, job.lent_rows, false);
-        let mut p = Planner::new(&region, stock.as_deref(), &job.params, &mut hooks).unwrap();
-        for _ in 0..r.below(40) {
-            let (c, rad) = (point(&mut r, &p), p.r * r.range(0.5, 3.0));
-            p.m.clear_disk(c, rad);
-        }
-        check(&mut r, &p, &Lent::new(&region, 1, 2));
-    }
-    assert!(jobs > JOBS / 2);
-}
+use oracle::generate::Rng;
+use oracle::vec2::v2;
 
 #[test]
 fn limits() {

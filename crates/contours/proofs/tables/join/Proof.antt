@@ -34,11 +34,11 @@ mul-next c = omega (arith, c .pre .cells)
 loop-holds : tie.Need-loop-holds Inv-loop μ-loop
 loop-holds c = (joined-none _ _ _, omega arith)
 
+mul-i : tie.Need-mul-i Inv-loop μ-loop
+mul-i c = let h = room c in omega (arith, h .0, h .1)
+
 mul-from : tie.Need-mul-from Inv-loop μ-loop
 mul-from c = let h = room c in omega (arith, h .0, h .1)
-
-mul-from-2 : tie.Need-mul-from-2 Inv-loop μ-loop
-mul-from-2 c = let h = room c in omega (arith, h .0, h .1)
 
 slice-read-from : tie.Need-slice-read-from Inv-loop μ-loop
 slice-read-from c = let h = room (c .before) in omega (arith, h .0, h .1, h .2)
@@ -46,14 +46,11 @@ slice-read-from c = let h = room (c .before) in omega (arith, h .0, h .1, h .2)
 cast-from : tie.Need-cast-from Inv-loop μ-loop
 cast-from c = let h = room (c .before) in omega (arith, h .1, below (c .before) .from)
 
-mul-to : tie.Need-mul-to Inv-loop μ-loop
-mul-to c = let h = room (c .before) in omega (arith, h .0, h .1, h .2)
-
 add-to : tie.Need-add-to Inv-loop μ-loop
 add-to c = let h = room (c .before) in omega (arith, h .0, h .1, h .2)
 
-mul-to-2 : tie.Need-mul-to-2 Inv-loop μ-loop
-mul-to-2 c = let h = room (c .before) in omega (arith, h .0, h .1, h .2)
+mul-to : tie.Need-mul-to Inv-loop μ-loop
+mul-to c = let h = room (c .before) in omega (arith, h .0, h .1, h .2)
 
 slice-read-to : tie.Need-slice-read-to Inv-loop μ-loop
 slice-read-to c = let h = room (c .before .before) in omega (arith, h .0, h .1, h .2)
@@ -104,13 +101,12 @@ join-spec =
     μ-loop
     mul-next
     loop-holds
+    mul-i
     mul-from
-    mul-from-2
     slice-read-from
     cast-from
-    mul-to
     add-to
-    mul-to-2
+    mul-to
     slice-read-to
     add-words
     mul-words

@@ -1,0 +1,76 @@
+//! The functions of the layer `contours`, with what they require as assertions.
+use oracle::planner::{Piece, Planner};
+use oracle::vec2::v2;
+
+mod linked {
+    unsafe extern "C" {
+        pub fn contours_trace(
+            ox: f64,
+            oy: f64,
+            cell: f64,
+            nx: usize,
+            ny: usize,
+            f: *const f32,
+            f_len: usize,
+            level: f32,
+            words: *mut u32,
+            words_len: usize,
+            marks: *mut u8,
+            marks_len: usize,
+            pts: *mut f64,
+            pts_len: usize,
+        ) -> usize;
+    }
+}
+
+/// What `trace` is lent for a raster of n cells: filled with what would be seen if it were read.
+pub struct Space {
+    words: Vec<u32>,
+    marks: Vec<u8>,
+    pts: Vec<f64>,
+}
+
+impl Space {
+    pub fn new(n: usize) -> Space {
+        Space { words: vec![7; 9 * n], marks: vec![1; 2 * n], pts: vec![-1e300; 4 * n] }
+    }
+
+    /// The pieces of a field on the planner's raster, as rows and points hold them.
+    pub fn trace(&mut self, p: &Planner, f: &[f32], level: f32) -> usize {
+        let n = p.nx * p.ny;
+        assert!((1..=4096).contains(&p.nx) && (1..=4096).contains(&p.ny) && n <= 1_048_576);
+        assert!(f.len() >= n && self.pts.len() >= 4 * n);
+        assert!(self.words.len() == 9 * n && self.marks.len() == 2 * n);
+        unsafe {
+            linked::contours_trace(
+                p.m.origin.x,
+                p.m.origin.y,
+                p.cell,
+                p.nx,
+                p.ny,
+                f.as_ptr(),
+                f.len(),
+                level,
+                self.words.as_mut_ptr(),
+                self.words.len(),
+                self.marks.as_mut_ptr(),
+                self.marks.len(),
+                self.pts.as_mut_ptr(),
+                self.pts.len(),
+            )
+        }
+    }
+
+    /// The first m pieces.
+    pub fn pieces(&self, m: usize) -> Vec<Piece> {
+        let rows = &self.words[self.words.len() / 3 * 2..];
+        rows.chunks(3)
+            .take(m)
+            .map(|row| {
+                let (first, points) = (row[0] as usize, row[1] as usize);
+                let pts = self.pts[2 * first..2 * (first + points)].chunks(2).map(|q| v2(q[0], q[1])).collect();
+                Piece { pts, closed: row[2] == 1 }
+            })
+            .collect()
+    }
+}

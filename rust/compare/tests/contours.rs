@@ -1,0 +1,86 @@
+//! The pieces of fields, against the oracle's: the planner's own fields, and made ones with levels that
+//! equal a field value, saddles and cells where there is no number.
+use compare::bits::Bits;
+use compare::contours::Space;
+use compare::planners::{cut, each};
+use oracle::generate::Rng;
+use oracle::planner::{Piece, Planner};
+
+fn same(got: &[Piece], want: &[Piece]) {
+    assert_eq!(got.len(), want.len());
+    for (a, b) in got.iter().zip(want) {
+        assert_eq!(a.closed, b.closed);
+        let bits = |p: &Piece| p.pts.iter().map(|q| [q.x.bits(), q.y.bits()]).collect::<Vec<_>>();
+        assert_eq!(bits(a), bits(b));
+    }
+}
+
+/// Counts of what the pieces met.
+#[derive(Default)]
+struct Met {
+    pieces: usize,
+    closed: usize,
+    points: usize,
+}
+
+impl Met {
+    fn check(&mut self, space: &mut Space, p: &Planner, f: &[f32], level: f32) {
+        let want = p.contours(f, level);
+        let m = space.trace(p, f, level);
+        same(&space.pieces(m), &want);
+        self.pieces += want.len();
+        self.closed += want.iter().filter(|p| p.closed).count();
+        self.points += want.iter().map(|p| p.pts.len()).sum::<usize>();
+    }
+}
+
+#[test]
+fn pieces_of_planned_fields() {
+    let mut met = Met::default();
+    each(|r, p, _| {
+        let mut space = Space::new(p.nx * p.ny);
+        for _ in 0..4 {
+            let dist = p.material_distance();
+            let f = p.field(&dist);
+            for level in [(2.0 * p.target) as f32, 0.5, std::f32::consts::PI] {
+                met.check(&mut space, p, &f, level);
+            }
+            cut(r, p, 8);
+        }
+        let ring: Vec<f32> = p.allowed.iter().map(|&a| if a { 0.0 } else { 1.0 }).collect();
+        met.check(&mut space, p, &ring, 0.5);
+    });
+    assert!(met.pieces > 200 && met.closed > 50 && met.points > 30_000, "{} {} {}", met.pieces, met.closed, met.points);
+}
+
+/// A value of the kinds that are made: few different ones, so that levels equal them.
+fn value(r: &mut Rng, kind: u64) -> f32 {
+    match kind {
+        0 => r.below(2) as f32,
+        1 => 0.25 * r.below(5) as f32,
+        2 => r.pick(&[0.0, 0.5, 1.0, f32::NAN]),
+        3 => 0.5 + r.pick(&[0.0, 1e-7, -1e-7, 3e-8, 1.0]),
+        4 => r.pick(&[0.0, -0.0, 1.0, f32::INFINITY, f32::NEG_INFINITY, f32::MAX, f32::MIN_POSITIVE]),
+        _ => r.range(-1.0, 2.0) as f32,
+    }
+}
+
+#[test]
+fn pieces_of_made_fields() {
+    let mut met = Met::default();
+    each(|r, p, _| {
+        let n = p.nx * p.ny;
+        let mut space = Space::new(n);
+        for kind in 0..6 {
+            let mut f: Vec<f32> = (0..n).map(|_| value(r, kind)).collect();
+            // A calm half, so that chains grow long.
+            for v in f.iter_mut().take(n / 2) {
+                if r.chance(0.98) {
+                    *v = 0.0;
+                }
+            }
+            met.check(&mut space, p, &f, 0.5);
+        }
+    });
+    assert!(met.pieces > 100_000 && met.closed > 10_000, "{} {} {}", met.pieces, met.closed, met.points);
+}
