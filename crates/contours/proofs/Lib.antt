@@ -15,5 +15,7 @@ pub mod TableLaws
 pub mod TabulateLaws
 pub mod TourLaws
 pub mod ContourLaws
+pub mod UsedLaws
+pub mod OnceLaws
 pub mod StepLaws
 pub mod SmoothLaws

@@ -5,4 +5,5 @@ pub mod Square
 pub mod March
 pub mod Chain
 pub mod Traced
+pub mod Used
 pub mod Smooth
