@@ -19,3 +19,10 @@ pub mod UsedLaws
 pub mod OnceLaws
 pub mod StepLaws
 pub mod SmoothLaws
+pub mod PartLaws
+pub mod AllLaws
+pub mod CurveLaws
+pub mod GaugeLaws
+pub mod FieldLaws
+pub mod RoundLaws
+pub mod DoneLaws

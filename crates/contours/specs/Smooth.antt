@@ -1,9 +1,9 @@
 -- Smoothing of a traced curve, as `smooth` of adaptive.rs: three passes of averaging with the neighbours, then points closer than a cell to the last one
 -- kept are dropped. Definitions only.
-use Prim.Native.Nat.{ℕ, _+_, _-_, _≤_}
+use Prim.Native.Nat.{ℕ, _+_, _-_, _≤_, _<_}
 use mathlib.Core.Path.{_≡_}
 use mathlib.Core.Bool.{Bool, false, cond, _&&_, _||_}
-use mathlib.Core.List.{List, [], _∷_, _++_}
+use mathlib.Core.List.{List, [], _∷_, _++_, map}
 use lib.ListN.{length, getD, set}
 use lib.Dec.{eqb, ltb}
 use lib.Ieee.{Float, nan, binary64, ofBits, le, eq}
@@ -12,7 +12,8 @@ use Rattle.geom.specs.Vec.{v2, sum, scaled, distanceOf}
 use Rattle.geom.specs.Region.{vertexOf, before, after}
 use Rattle.geom.specs.Points.{putPoint, points}
 use Rattle.geom.specs.declared.vec2.Vec2.{Vec2}
-use Rattle.contours.specs.Piece.{Piece}
+use Rattle.contours.specs.Piece.{Piece, piecesAt, endOf, Laid}
+use Rattle.contours.specs.declared.piece.Row.{Row}
 
 abbrev pub pointAt : List Vec2 → ℕ → Vec2
 pointAt ps k = getD ps k (v2 nan nan)
@@ -112,3 +113,20 @@ pub record Begins (l : List Vec2) (n : ℕ) (w : List Float) (r : ℕ) (t : List
   pub is : points 0 r t ≡ l
   pub few : r ≤ n
   pub long : length t ≡ length w
+
+-- ---- the pieces of lent rows and points
+
+-- r points of row p are left in v, which is as w beside the row's points
+pub record SmoothedRow (cell : Float) (p : Row) (w : List Float) (r : ℕ) (v : List Float) : Type 0 where
+  pub is : points (p .first) r v ≡ smoothOf (p .closed) cell (points (p .first) (p .points) w)
+  pub few : r ≤ p .points
+  pub low : (j : ℕ) → j < p .first → vertexOf v j ≡ vertexOf w j
+  pub high : (j : ℕ) → endOf p ≤ j → vertexOf v j ≡ vertexOf w j
+  pub long : length v ≡ length w
+
+-- the m pieces are smoothed, and still lie one behind the other in slices as long as they were
+pub record SmoothedAll (m : ℕ) (cell : Float) (rows : List ℕ) (pts : List Float) (rows′ : List ℕ) (pts′ : List Float) : Type 0 where
+  pub pieces : piecesAt m rows′ pts′ ≡ map (smoothed cell) (piecesAt m rows pts)
+  pub laid : Laid m rows′ pts′
+  pub rows-long : length rows′ ≡ length rows
+  pub points-long : length pts′ ≡ length pts

@@ -4,7 +4,11 @@ ghost use mathlib.Core.Path.{_≡_};
 ghost use Prim.Native.Nat.{_+_, _*_, _≤_, _<_};
 ghost use lib.ListN.{length};
 ghost use Rattle.geom.specs.Points.{points};
-ghost use Rattle.contours.specs.Smooth.{meanOf, heldAt, averaged, nextOf, avg, averagePut, keptOf, kpt, keepPut, samePoint, resampled, smoothOf, Begins};
+ghost use Rattle.contours.specs.Smooth.{meanOf, heldAt, averaged, nextOf, avg, averagePut, keptOf, kpt, keepPut, samePoint, resampled, smoothOf, Begins, SmoothedRow, SmoothedAll};
+ghost use Rattle.contours.specs.Piece.{rowAt, putRow, cutTo, endOf, Laid};
+use super::piece::Row;
+use super::piece::piece_at;
+use super::piece::put_piece;
 use geom::points::put;
 use geom::region::vertex;
 use geom::vec2::Vec2;
@@ -132,4 +136,38 @@ pub fn smooth(pts: &mut [f64], n: usize, closed: bool, cell: f64) -> usize
         average(pts, n, closed);
     }
     resample(pts, n, closed, cell)
+}
+
+// Smooths the points of row k; how many are left.
+fn smooth_row(rows: &mut [u32], pts: &mut [f64], k: usize, cell: f64) -> usize
+    requires { ⌜ 3 * k + 2 < length (now rows) ⌝ }
+    requires { ⌜ 2 * endOf (rowAt (now rows) k) ≤ length (now pts) ⌝ }
+    ensures { λ r. ⌜ now (rows .exit) ≡ putRow k (cutTo r (rowAt (now (rows .entry)) k)) (now (rows .entry)) ⌝ }
+    ensures { λ r. ⌜ SmoothedRow cell (rowAt (now (rows .entry)) k) (now (pts .entry)) r (now (pts .exit)) ⌝ }
+{
+    let p = piece_at(rows, k);
+    let n = p.points as usize;
+    let a = 2 * (p.first as usize);
+    let e = a + 2 * n;
+    let m = smooth(&mut pts[a..e], n, p.closed, cell);
+    put_piece(
+        rows,
+        k,
+        Row {
+            first: p.first,
+            points: m as u32,
+            closed: p.closed,
+        },
+    );
+    m
+}
+
+// Smooths the pieces of the first m rows.
+pub fn smooth_all(rows: &mut [u32], pts: &mut [f64], m: usize, cell: f64)
+    requires { ⌜ Laid m (now rows) (now pts) ⌝ }
+    ensures { λ _. ⌜ SmoothedAll m cell (now (rows .entry)) (now (pts .entry)) (now (rows .exit)) (now (pts .exit)) ⌝ }
+{
+    for k in 0..m {
+        smooth_row(rows, pts, k, cell);
+    }
 }

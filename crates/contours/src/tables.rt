@@ -21,7 +21,7 @@ fn clear_next(next: &mut [u32])
     }
 }
 
-fn clear_marks(marks: &mut [u8])
+pub fn clear_marks(marks: &mut [u8])
     ensures { λ _. ⌜ now (marks .exit) ≡ replicate (length (now (marks .entry))) 0 ⌝ }
 {
     for k in 0..marks.len() {
