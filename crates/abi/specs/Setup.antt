@@ -25,3 +25,18 @@ placed g region r keep samples bound = record {
 -- the answers do not look at the bound
 abbrev pub plain : Grid → Region → Float → Float → ℕ → Setup
 plain g region r keep samples = placed g region r keep samples Untold
+
+-- a Setup of what the field reads
+abbrev pub sensing : Grid → Float → Float → ℕ → Setup
+sensing g r target samples = record {
+  grid = g;
+  region = record { at = 0; first = 0; loops = 0 };
+  r = r;
+  «r_guard» = ofBits binary64 0;
+  keep = ofBits binary64 0;
+  bound = Untold;
+  target = target;
+  guard = ofBits binary64 0;
+  samples = samples;
+  «keep_down» = true;
+}

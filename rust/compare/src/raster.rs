@@ -79,6 +79,7 @@ mod linked {
             log_len: usize,
             count: usize,
         );
+        pub fn raster_fill_rim(rim: *mut f64, rim_len: usize, n: usize);
         pub fn raster_engagement(
             ox: f64,
             oy: f64,
@@ -113,6 +114,12 @@ mod linked {
             xs_len: usize,
         );
     }
+}
+
+/// Fills the table of n directions.
+pub fn fill_rim(rim: &mut [f64], n: usize) {
+    assert!(2 * n <= rim.len());
+    unsafe { linked::raster_fill_rim(rim.as_mut_ptr(), rim.len(), n) }
 }
 
 /// A grid with its lent map and log.

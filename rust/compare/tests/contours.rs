@@ -1,10 +1,11 @@
-//! The pieces of fields, against the oracle's: the planner's own fields, and made ones with levels that
-//! equal a field value, saddles and cells where there is no number.
+//! The field round by round, and the pieces of fields and their smoothing, against the oracle's: the
+//! planner's own fields, and made ones with levels that equal a field value, saddles and cells where
+//! there is no number.
 use compare::bits::Bits;
-use compare::contours::Space;
+use compare::contours::{Rounds, Space};
 use compare::planners::{cut, each};
 use oracle::generate::Rng;
-use oracle::planner::{Piece, Planner};
+use oracle::planner::{Piece, Planner, smooth};
 
 fn same(got: &[Piece], want: &[Piece]) {
     assert_eq!(got.len(), want.len());
@@ -25,13 +26,44 @@ struct Met {
 
 impl Met {
     fn check(&mut self, space: &mut Space, p: &Planner, f: &[f32], level: f32) {
-        let want = p.contours(f, level);
+        let mut want = p.contours(f, level);
         let m = space.trace(p, f, level);
         same(&space.pieces(m), &want);
         self.pieces += want.len();
         self.closed += want.iter().filter(|p| p.closed).count();
         self.points += want.iter().map(|p| p.pts.len()).sum::<usize>();
+        space.smooth(m, p.cell);
+        for piece in &mut want {
+            smooth(&mut piece.pts, piece.closed, p.cell);
+        }
+        same(&space.pieces(m), &want);
     }
+}
+
+/// Rounds of cutting: the field worked out anew, then only near the cells that were cut.
+#[test]
+fn fields() {
+    let (mut sampled, mut cells, mut rounds) = (0, 0, 0);
+    each(|r, p, _| {
+        let mut mine = Rounds::new(p);
+        for _ in 0..6 {
+            mine.take(p);
+            let dist = p.material_distance();
+            let (all, before) = (p.all_dirty, p.work);
+            let want = p.field(&dist);
+            let got = mine.field(p, all);
+            assert!(mine.values().iter().zip(&want).all(|(a, b)| a.bits() == b.bits()));
+            assert_eq!(got * p.samples, p.work - before);
+            assert!(mine.dirty().iter().all(|&d| d == 0));
+            sampled += got;
+            cells += want.len();
+            rounds += 1;
+            cut(r, p, 6);
+            // As a helix leaves it.
+            p.all_dirty = r.chance(0.1);
+        }
+    });
+    assert!(rounds > 150 && sampled > 30_000, "{rounds} {sampled} of {cells}");
 }
 
 #[test]
