@@ -2,6 +2,7 @@
 // station links is another crate.
 pub mod of_contours;
 pub mod of_distance;
+pub mod of_field;
 pub mod of_geom;
 pub mod of_links;
 pub mod of_numbers;

@@ -5,16 +5,11 @@ ghost use lib.ListN.{length};
 ghost use Rattle.raster.specs.Grid.{Over};
 ghost use Rattle.contours.specs.Chain.{contoursOf};
 ghost use Rattle.contours.specs.Piece.{piecesAt, Laid};
-ghost use Rattle.contours.specs.Round.{Ready, Done};
 ghost use Rattle.contours.specs.Smooth.{SmoothedAll};
 ghost use Rattle.contours.specs.Traced.{rowsIn, Sized};
 ghost use Rattle.abi.specs.Raster.{grid};
-ghost use Rattle.abi.specs.Setup.{sensing};
-use geom::region::Region;
 use geom::vec2::Vec2;
-use numbers::bound::Bound;
 use raster::grid::Grid;
-use setup::Setup;
 
 // The number of pieces; their rows are the last third of the words.
 #[no_mangle]
@@ -53,50 +48,4 @@ pub extern "C" fn contours_smooth(rows: &mut [u32], pts: &mut [f64], m: usize, c
     ensures { λ _. ⌜ SmoothedAll m cell (now (rows .entry)) (now (pts .entry)) (now (rows .exit)) (now (pts .exit)) ⌝ }
 {
     contours::smooth::smooth_all(rows, pts, m, cell);
-}
-
-// The field of a round in a workspace whose squares and rim are filled; how many cells were sampled.
-#[no_mangle]
-pub extern "C" fn contours_field(
-    ox: f64,
-    oy: f64,
-    cell: f64,
-    nx: usize,
-    ny: usize,
-    r: f64,
-    target: f64,
-    samples: usize,
-    all: bool,
-    b: &mut [u8],
-    u: &mut [u32],
-    w: &[f64],
-    f: &mut [f32],
-) -> usize
-    requires { ⌜ Ready (sensing (grid ox oy cell nx ny) r target samples) (now b) (now u) (now w) (now f) ⌝ }
-    ensures { λ n. ⌜ Done (sensing (grid ox oy cell nx ny) r target samples) all (now (b .entry)) (now (u .entry)) (now (f .entry)) n (now (b .exit)) (now (u .exit)) (now (f .exit)) ⌝ }
-{
-    let origin = Vec2 { x: ox, y: oy };
-    let grid = Grid {
-        origin,
-        cell,
-        nx,
-        ny,
-    };
-    let s = Setup {
-        grid,
-        region: Region {
-            at: 0,
-            first: 0,
-            loops: 0,
-        },
-        r,
-        r_guard: 0.0,
-        keep: 0.0,
-        bound: Bound::Untold,
-        target,
-        guard: 0.0,
-        samples,
-        keep_down: true,
-    };
-    contours::round::field(s, all, b, u, w, f)
 }

@@ -6,46 +6,16 @@ use Prim.Native.Nat.{ℕ, zero, suc, _+_, _-_, _*_, _≤_, _<_}
 use native.Mathlib.Omega.{arith}
 use lib.ListN.{length, getD, set, replicate, length-set, length-append, length-replicate, getD-replicate}
 use lib.Dec.{eqb, ltb}
+use Rattle.loops.specs.Each.{Each, over}
 use Rattle.loops.specs.Loop.{turns, loop, Run, on, out, turn}
 use Rattle.loops.specs.Cells.{ones}
 use Rattle.loops.proofs.Cases.{by-cases, by-test, never}
-use Rattle.loops.proofs.CellLaws.{ones-le}
+use Rattle.loops.proofs.CellLaws.{ones-le, ones-mark}
+use Rattle.loops.proofs.SetLaws.{set-either}
+use Rattle.loops.proofs.EachLaws.{over-keeps}
 use Rattle.geom.specs.declared.vec2.Vec2.{Vec2}
-use Rattle.contours.specs.March.{Each}
 use Rattle.contours.specs.declared.square.Segment.{Segment}
-use Rattle.contours.specs.Chain.{nothing, over, Tables, joined, blank, tablesOf, Leads, Walk, Chain, walk, ended, stepTo, follow, chainOf, walkFrom, chainFrom, near, thinned, deduped}
-
--- ---- a number that is set
-
--- what holds of the number that is set and of those that were there holds of each
-pub set-either : {A : Type 0} (P : A → Type 0) (l : List A) (i j : ℕ) (v d : A) → P v → P (getD l j d) → P (getD (set l i v) j d)
-set-either P [] i j v d p q = q
-set-either P (x ∷ l) zero zero v d p q = p
-set-either P (x ∷ l) zero (suc j) v d p q = q
-set-either P (x ∷ l) (suc i) zero v d p q = q
-set-either P (x ∷ l) (suc i) (suc j) v d p q = set-either P l i j v d p q
-
--- a mark more is one more
-pub ones-mark : (m : List ℕ) (k : ℕ) → k < length m → eqb (getD m k 0) 1 ≡ false → ones (set m k 1) ≡ ones m + 1
-unfolding ones
-ones-mark [] k h e = absurd (let z : ⊥ = omega arith in z)
-ones-mark (x ∷ m) zero h e = rw e (omega arith)
-ones-mark (x ∷ m) (suc k) h e = omega (arith, ones-mark m k (omega arith) e)
-
--- ---- a list gone over
-
-module _ {A S : Type 0} (f : A → S → S) where
-  -- one more at the end
-  pub over-more : (l : List A) (x : A) (s : S) → f x (over f l s) ≡ over f (l ++ (x ∷ [])) s
-  unfolding over
-  over-more [] x s = refl
-  over-more (y ∷ l) x s = over-more l x (f y s)
-
-  -- what each turn keeps, the whole keeps
-  pub over-keeps : (Q : A → Type 0) (P : S → Type 0) → ((x : A) (s : S) → Q x → P s → P (f x s)) → (l : List A) → Each Q l → (s : S) → P s → P (over f l s)
-  unfolding over Each
-  over-keeps Q P h [] e s p = p
-  over-keeps Q P h (x ∷ l) e s p = over-keeps Q P h l (e .1) (f x s) (h x s (e .0) p)
+use Rattle.contours.specs.Chain.{nothing, Tables, joined, blank, tablesOf, Leads, Walk, Chain, walk, ended, stepTo, follow, chainOf, walkFrom, chainFrom, near, thinned, deduped}
 
 -- ---- the tables
 

@@ -6,19 +6,20 @@ use Prim.Native.Nat.{ℕ, _+_, _*_, _≤_, _<_}
 use native.Mathlib.Omega.{arith}
 use lib.ListN.{length}
 use lib.Ieee.{Float}
+use Rattle.loops.proofs.EachLaws.{each-all}
+use Rattle.loops.specs.Each.{Each}
 use Rattle.loops.proofs.CellLaws.{ones-le}
 use Rattle.geom.specs.declared.vec2.Vec2.{Vec2}
 use Rattle.raster.specs.declared.grid.Grid.{Grid}
 use Rattle.contours.specs.Edge.{Between}
 use Rattle.contours.specs.Square.{Joins}
-use Rattle.contours.specs.March.{segmentsOf, march, Each}
+use Rattle.contours.specs.March.{segmentsOf, march}
 use Rattle.contours.specs.Piece.{Piece, piecesAt}
 use Rattle.contours.specs.Chain.{Tables, tables, tablesOf, Leads, edge, pointAt, Chains, chains, chainAll, piecesOf, contoursOf}
 use Rattle.contours.specs.Traced.{segmentsIn, nextIn, rowsIn, piecesIn, segmentsAt, Packed, Tracing, Traced, Sized, Tabled, Contoured}
 use Rattle.contours.specs.declared.chain.Count.{Count}
 use Rattle.contours.specs.declared.square.Segment.{Segment}
 use Rattle.contours.proofs.JoinLaws.{march-joins}
-use Rattle.contours.proofs.SegmentLaws.{each-all}
 use Rattle.contours.proofs.ChainLaws.{tables-lead}
 
 abbrev zero-count : Count

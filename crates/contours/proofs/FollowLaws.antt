@@ -12,14 +12,14 @@ use Rattle.loops.specs.Loop.{loop, Run, on, out, turn}
 use Rattle.loops.specs.Cells.{ones}
 use Rattle.loops.proofs.LoopLaws.{Going, going-none, going-on, going-out}
 use Rattle.loops.proofs.Cases.{by-test}
-use Rattle.loops.proofs.CellLaws.{ones-le}
+use Rattle.loops.proofs.CellLaws.{ones-le, ones-mark}
 use Rattle.geom.specs.Region.{vertexOf}
 use Rattle.geom.specs.Points.{points, putPoint}
 use Rattle.geom.specs.declared.vec2.Vec2.{Vec2}
 use Rattle.geom.proofs.PointLaws.{points-length, points-more, put-there, put-length}
 use Rattle.contours.specs.Chain.{nothing, Leads, Walk, Chain, walk, ended, stepTo, follow, chainOf, walkFrom, chainFrom, near, thinned, deduped, lastOf, lastKept, keptOf, putKept, Trailing, Followed}
 use Rattle.contours.specs.declared.chain.Trail.{Trail}
-use Rattle.contours.proofs.ChainLaws.{Walked, walked-none, walked-more, walked-room, ones-mark}
+use Rattle.contours.proofs.ChainLaws.{Walked, walked-none, walked-more, walked-room}
 use Rattle.contours.proofs.DedupLaws.{deduped-few, trailing-more}
 
 -- after some turns, `ids` are the edges after s

@@ -8,13 +8,15 @@ use native.Mathlib.Nat.{add-mul, suc-mul, mul-left-comm, mul-le-mul-right}
 use lib.Dec.{eqb}
 use lib.ListN.{length, length-append}
 use lib.Ieee.{Float}
+use Rattle.loops.proofs.EachLaws.{each-more}
+use Rattle.loops.specs.Each.{Each}
 use Rattle.loops.specs.Loop.{turns, loop}
-use Rattle.loops.proofs.LoopLaws.{loop-keeps}
+use Rattle.loops.proofs.LoopLaws.{loop-keeps, loop-few}
 use Rattle.raster.specs.Grid.{Sides, numbered}
 use Rattle.raster.specs.declared.grid.Grid.{Grid}
 use Rattle.contours.specs.Edge.{Between, crossingAt}
 use Rattle.contours.specs.Square.{InGrid, Joins, squareAt, hasNan, codeOf, edgesOf, segment, cutOf, saddleOf, joinedOf, cornersOf, turnedOf, directedOf}
-use Rattle.contours.specs.March.{pushed, pushedTwo, marchCode, marchSquare, marchRow, march, segmentAt, Gathered, Each}
+use Rattle.contours.specs.March.{pushed, pushedTwo, marchCode, marchSquare, marchRow, march, segmentAt, Gathered}
 use Rattle.contours.specs.declared.edge.EdgeNo.{EdgeNo}
 use Rattle.contours.specs.declared.square.Square.{Square}
 use Rattle.contours.specs.declared.square.Edges.{Edges}
@@ -22,7 +24,7 @@ use Rattle.contours.specs.declared.square.Segment.{Segment}
 use Rattle.contours.specs.declared.square.Saddle.{Saddle}
 use Rattle.contours.proofs.EdgeLaws.{across-between, upward-between, edge-below}
 use Rattle.contours.proofs.SquareLaws.{last-below}
-use Rattle.contours.proofs.SegmentLaws.{each-more, each-segment}
+use Rattle.contours.proofs.SegmentLaws.{each-segment}
 
 -- ---- the edges that are joined
 
@@ -131,17 +133,6 @@ pub joins-below : (g : Grid) (s : Segment) → Sides g → Joins g s → (s .fro
 joins-below g s h j = (edge-below g (s .from) h (j .from), edge-below g (s .to) h (j .to))
 
 -- ---- how many there are
-
-module _ {S : Type 0} (f : ℕ → S → S) (size : S → ℕ) (a c : ℕ) where
-  turns-few : (n : ℕ) → ((i : ℕ) (s : S) → size (f i s) ≤ size s + c) → (s : S) → size (turns f a n s) ≤ size s + n * c
-  unfolding turns
-  turns-few zero h s = omega arith
-  turns-few (suc n) h s = omega (arith, h (a + n) (turns f a n s), turns-few n h s, suc-mul n c)
-
-  -- a loop whose turns add at most c each
-  loop-few : (e : ℕ) → ((i : ℕ) (s : S) → size (f i s) ≤ size s + c) → (s : S) → size (loop f a e s) ≤ size s + (e - a) * c
-  unfolding loop
-  loop-few e h s = turns-few (e - a) h s
 
 module _ (g : Grid) (f : List Float) (level : Float) where
   code-few : (q : Square) (code : ℕ) (l : List Segment) → length (marchCode g f level q code l) ≤ length l + 2

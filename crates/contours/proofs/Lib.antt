@@ -1,6 +1,5 @@
 -- The laws of `contours`, on the definitions alone.
 pub mod EdgeLaws
-pub mod NanLaws
 pub mod SquareLaws
 pub mod SegmentLaws
 pub mod JoinLaws
@@ -10,7 +9,6 @@ pub mod ChainLaws
 pub mod DedupLaws
 pub mod FollowLaws
 pub mod TraceLaws
-pub mod FillLaws
 pub mod TableLaws
 pub mod TabulateLaws
 pub mod TourLaws
@@ -22,7 +20,3 @@ pub mod SmoothLaws
 pub mod PartLaws
 pub mod AllLaws
 pub mod CurveLaws
-pub mod GaugeLaws
-pub mod FieldLaws
-pub mod RoundLaws
-pub mod DoneLaws

@@ -6,15 +6,16 @@ use Prim.Native.Nat.{ℕ, zero, suc, _<_}
 use native.Mathlib.Omega.{arith}
 use lib.ListN.{length, getD, set, replicate, length-set, length-replicate}
 use lib.Dec.{eqb}
+use Rattle.loops.proofs.EachLaws.{over-keeps, each-all}
+use Rattle.loops.proofs.SetLaws.{set-either}
+use Rattle.loops.specs.Each.{over, Each}
 use Rattle.loops.proofs.Cases.{by-cases, by-test}
 use Rattle.geom.specs.declared.vec2.Vec2.{Vec2}
-use Rattle.contours.specs.Chain.{nothing, over, Leads, Chain, chainFrom, Chains, chained, startsAt, startAt, chainAll, Tables, tables, joined, blank, tablesOf}
-use Rattle.contours.specs.March.{Each}
+use Rattle.contours.specs.Chain.{nothing, Leads, Chain, chainFrom, Chains, chained, startsAt, startAt, chainAll, Tables, tables, joined, blank, tablesOf}
 use Rattle.contours.specs.Traced.{Below}
 use Rattle.contours.specs.Used.{used, has, Once, Owns, Edges, edges, followedAt, followedAll, followedOf}
 use Rattle.contours.specs.declared.square.Segment.{Segment}
-use Rattle.contours.proofs.ChainLaws.{set-either, over-keeps, tables-lead}
-use Rattle.contours.proofs.SegmentLaws.{each-all}
+use Rattle.contours.proofs.ChainLaws.{tables-lead}
 use Rattle.contours.proofs.TourLaws.{unused-start}
 use Rattle.contours.proofs.UsedLaws.{has-append, once-append, chain-owns}
 

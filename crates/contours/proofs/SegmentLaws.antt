@@ -8,9 +8,11 @@ use lib.Dec.{ltb}
 use lib.ListN.{length, getD, set, length-set, length-append}
 use lib.Seq.{getD-set-same, getD-set-other}
 use borrow.Author.Tests.{ltb-true, ltb-false}
+use Rattle.loops.specs.Each.{Each}
+use Rattle.loops.proofs.EachLaws.{each-less}
 use Rattle.loops.proofs.Cases.{by-cases}
 use Rattle.contours.specs.Square.{segment}
-use Rattle.contours.specs.March.{segmentAt, segmentsOf, putSegment, Each}
+use Rattle.contours.specs.March.{segmentAt, segmentsOf, putSegment}
 use Rattle.contours.specs.declared.square.Segment.{Segment}
 
 pub put-length : (k : ℕ) (s : Segment) (w : List ℕ) → length (putSegment k s w) ≡ length w
@@ -64,23 +66,6 @@ segments-more n s w h =
     ∙ ap (λ (t : Segment). segmentsOf n w ++ (t ∷ [])) (put-here n s w h))
 
 -- ---- what holds of every one of a list
-
-module _ {A : Type 0} (P : A → Type 0) where
-  pub each-more : (l : List A) (x : A) → Each P l → P x → Each P (l ++ (x ∷ []))
-  unfolding Each
-  each-more [] x e p = (p, tt)
-  each-more (y ∷ l) x e p = (e .0, each-more l x (e .1) p)
-
-  pub each-less : (l : List A) (x : A) → Each P (l ++ (x ∷ [])) → Each P l × P x
-  unfolding Each
-  each-less [] x e = (tt, e .0)
-  each-less (y ∷ l) x e = let r = each-less l x (e .1) in ((e .0, r .0), r .1)
-
--- what it implies holds too
-pub each-all : {A : Type 0} (P Q : A → Type 0) → ((x : A) → P x → Q x) → (l : List A) → Each P l → Each Q l
-unfolding Each
-each-all P Q f [] e = tt
-each-all P Q f (x ∷ l) e = (f x (e .0), each-all P Q f l (e .1))
 
 -- it holds of each segment in the slice
 pub each-segment : (P : Segment → Type 0) (n : ℕ) (w : List ℕ) → Each P (segmentsOf n w) → (k : ℕ) → k < n → P (segmentAt w k)

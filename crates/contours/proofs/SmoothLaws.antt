@@ -6,8 +6,9 @@ use Prim.Native.Nat.{ℕ, _+_, _-_, _*_, _≤_, _<_}
 use native.Mathlib.Omega.{arith}
 use lib.ListN.{length, set}
 use lib.Dec.{eqb, ltb}
-use lib.Ieee.{Float, binary64, sub, le}
+use lib.Ieee.{Float, binary64, sub, le, isNan, inf, fin, nan}
 use borrow.Author.Tests.{eqb-false, ltb-true, ltb-false, ne-eqb, lt-ltb, le-ltb}
+use Rattle.loops.proofs.LoopLaws.{loop-both}
 use Rattle.loops.specs.Loop.{loop}
 use Rattle.loops.proofs.Cases.{by-cases, never}
 use Rattle.floats.proofs.OrderLaws.{le-numbers}
@@ -17,8 +18,16 @@ use Rattle.geom.specs.Points.{putPoint, points}
 use Rattle.geom.specs.declared.vec2.Vec2.{Vec2}
 use Rattle.geom.proofs.PointLaws.{put-length, put-there, points-length}
 use Rattle.contours.specs.Smooth.{pointAt, lastOf, meanOf, heldAt, averageAt, averaged, keepAt, keptOf, samePoint, endedAt, resampled, smoothOf, Averaging, avg, nextOf, averagePut, Keeping, kpt, keepPut, Begins}
-use Rattle.contours.proofs.NanLaws.{add-numbers, sub-numbers, square-number, root-number, eq-self}
-use Rattle.contours.proofs.StepLaws.{loop-both, points-at, points-last, points-push, points-set, last-push, length-push}
+use Rattle.numbers.specs.Root.{rootOf}
+use Rattle.floats.proofs.NanLaws.{add-numbers, sub-numbers, square-number, eq-self}
+use Rattle.contours.proofs.StepLaws.{points-at, points-last, points-push, points-set, last-push, length-push}
+
+-- a root that is a number is of one
+root-number : (x : Float) → isNan (rootOf x) ≡ false → isNan x ≡ false
+unfolding rootOf isNan
+root-number nan e = e
+root-number (inf s) e = refl
+root-number (fin s m b) e = refl
 
 -- ---- averaging
 

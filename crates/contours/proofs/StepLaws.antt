@@ -1,4 +1,4 @@
--- Two loops in step, and a point that is put as an element of the list of points. Assumes nothing.
+-- A point that is put as an element of the list of points. Assumes nothing.
 use mathlib.Core.Path.{_≡_, sym, ap, _∙_, subst}
 use Prim.Native.Nat.{ℕ, zero, suc, _+_, _-_, _*_, _≤_, _<_}
 use native.Mathlib.Omega.{arith}
@@ -8,7 +8,6 @@ use lib.Seq.{getD-set-same, getD-set-other, ext-getD, getD-append-seam}
 use lib.Dec.{eqb}
 use lib.Ieee.{Float, nan}
 use borrow.Author.Tests.{eqb-true, eqb-false}
-use Rattle.loops.specs.Loop.{turns, loop}
 use Rattle.loops.proofs.Cases.{by-cases}
 use Rattle.geom.specs.Vec.{v2}
 use Rattle.geom.specs.Region.{vertexOf}
@@ -16,21 +15,6 @@ use Rattle.geom.specs.Points.{putPoint, points}
 use Rattle.geom.specs.declared.vec2.Vec2.{Vec2}
 use Rattle.geom.proofs.PointLaws.{put-here, put-there, points-length, points-get, points-more}
 use Rattle.contours.specs.Smooth.{pointAt, lastOf}
-
-module _ {S U : Type 0} (f : ℕ → S → S) (g : ℕ → U → U) (R : ℕ → S → U → Type 0) (a : ℕ) where
-  turns-both : (n : ℕ) → ((i : ℕ) (s : S) (u : U) → a ≤ i → i < a + n → R i s u → R (i + 1) (f i s) (g i u)) → (s : S) (u : U) → R a s u → R (a + n) (turns f a n s) (turns g a n u)
-  unfolding turns
-  turns-both zero h s u r = subst (λ (k : ℕ). R k s u) (let z : a ≡ a + zero = omega arith in z) r
-  turns-both (suc n) h s u r =
-      subst (λ (k : ℕ). R k (f (a + n) (turns f a n s)) (g (a + n) (turns g a n u))) (let z : a + n + 1 ≡ a + suc n = omega arith in z)
-      (h (a + n) (turns f a n s) (turns g a n u) (omega arith) (omega arith) (turns-both n (λ i s u b c q. h i s u b (omega arith) q) s u r))
-
-  -- what relates the states of two loops turn by turn relates what they leave
-  pub loop-both : (e : ℕ) → a ≤ e → ((i : ℕ) (s : S) (u : U) → a ≤ i → i < e → R i s u → R (i + 1) (f i s) (g i u)) → (s : S) (u : U) → R a s u → R e (loop f a e s) (loop g a e u)
-  unfolding loop
-  loop-both e l h s u r =
-      subst (λ (k : ℕ). R k (turns f a (e - a) s) (turns g a (e - a) u)) (let z : a + (e - a) ≡ e = omega arith in z)
-      (turns-both (e - a) (λ i s u b c q. h i s u b (omega arith) q) s u r)
 
 -- ---- the points of a slice, from its start
 

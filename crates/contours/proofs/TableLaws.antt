@@ -4,29 +4,17 @@ use mathlib.Core.List.{List, [], _∷_, _++_}
 use Prim.Native.Nat.{ℕ, suc, _+_, _-_, _*_, _≤_, _<_}
 use native.Mathlib.Omega.{arith}
 use lib.ListN.{length, getD, set, take, drop, length-set}
-use lib.Seq.{getD-take, getD-drop, take-set-le, take-set-lt, drop-set-add}
+use lib.Seq.{getD-take, getD-drop}
+use Rattle.loops.proofs.EachLaws.{over-more}
+use Rattle.loops.specs.Each.{Each, over}
 use Rattle.loops.specs.Regions.{within}
+use Rattle.loops.proofs.SetLaws.{set-within, set-behind}
 use Rattle.contours.specs.Square.{segment}
-use Rattle.contours.specs.March.{segmentAt, segmentsOf, Each}
-use Rattle.contours.specs.Chain.{over, Tables, tables, joined, edge}
+use Rattle.contours.specs.March.{segmentAt, segmentsOf}
+use Rattle.contours.specs.Chain.{Tables, tables, joined, edge}
 use Rattle.contours.specs.Traced.{segmentsIn, nextIn, segmentsAt, Joined}
 use Rattle.contours.specs.declared.square.Segment.{Segment}
 use Rattle.contours.proofs.SegmentLaws.{each-segment}
-use Rattle.contours.proofs.ChainLaws.{over-more}
-
--- ---- a number that is set in a slice, in its parts
-
-module _ {A : Type 0} (w : List A) (v : A) where
-  pub set-within : (a e i : ℕ) → i < e - a → within a e (set w (a + i) v) ≡ set (within a e w) i v
-  unfolding within
-  set-within a e i h = ap (take (e - a)) (drop-set-add a w i v) ∙ take-set-lt (e - a) (drop a w) i v h
-
-  pub set-behind : (a e i : ℕ) → a ≤ e → e ≤ i → within a e (set w i v) ≡ within a e w
-  unfolding within
-  set-behind a e i h k =
-      ap (λ (j : ℕ). take (e - a) (drop a (set w j v))) (let z : i ≡ a + (i - a) = omega arith in z)
-      ∙ ap (take (e - a)) (drop-set-add a w (i - a) v)
-      ∙ take-set-le (e - a) (drop a w) (i - a) v (omega arith)
 
 front-get : (e k : ℕ) (w : List ℕ) → k < e → getD (within 0 e w) k 0 ≡ getD w k 0
 unfolding within

@@ -6,16 +6,17 @@ use native.Mathlib.Omega.{arith}
 use lib.ListN.{length, replicate, length-replicate}
 use lib.Ieee.{Float}
 use borrow.Rule.Slice.PartMut.{putMid}
+use Rattle.loops.proofs.EachLaws.{each-all}
+use Rattle.loops.specs.Each.{Each, over}
 use Rattle.loops.specs.Regions.{Fits, within, put}
 use Rattle.loops.proofs.RegionLaws.{region-long, put-is, put-back, put-before, put-length}
 use Rattle.raster.specs.Grid.{Over, Sides}
 use Rattle.raster.specs.declared.grid.Grid.{Grid}
 use Rattle.contours.specs.Square.{Joins}
-use Rattle.contours.specs.March.{segmentsOf, march, Gathered, Each}
-use Rattle.contours.specs.Chain.{nothing, over, Tables, tables, joined, blank, tablesOf}
+use Rattle.contours.specs.March.{segmentsOf, march, Gathered}
+use Rattle.contours.specs.Chain.{nothing, Tables, tables, joined, blank, tablesOf}
 use Rattle.contours.specs.Traced.{segmentsIn, nextIn, segmentsAt, Below, Listed, Joined, Sized, Tabled}
 use Rattle.contours.specs.declared.square.Segment.{Segment}
-use Rattle.contours.proofs.SegmentLaws.{each-all}
 use Rattle.contours.proofs.JoinLaws.{march-joins, joins-below}
 
 -- w is what is lent, r the part that `march` filled; then the next edges and the marks are cleared

@@ -8,14 +8,15 @@ use lib.ListN.{length, getD}
 use lib.Dec.{eqb}
 use lib.Ieee.{Float}
 use borrow.Author.Tests.{eqb-true, not-true}
+use Rattle.loops.proofs.EachLaws.{over-more}
+use Rattle.loops.specs.Each.{over}
 use Rattle.geom.specs.declared.vec2.Vec2.{Vec2}
 use Rattle.raster.specs.declared.grid.Grid.{Grid}
 use Rattle.contours.specs.March.{segmentAt, segmentsOf}
-use Rattle.contours.specs.Chain.{over, Chains, chains, chained, startsAt, startAt, chainAll}
+use Rattle.contours.specs.Chain.{Chains, chains, chained, startsAt, startAt, chainAll}
 use Rattle.contours.specs.Traced.{segmentsIn, nextIn, piecesIn, segmentsAt, Tracing, Traced}
 use Rattle.contours.specs.declared.chain.Count.{Count}
 use Rattle.contours.specs.declared.square.Segment.{Segment}
-use Rattle.contours.proofs.ChainLaws.{over-more}
 
 -- where a chain starts the edge is not used
 pub unused-start : (first : Bool) (mark : ℕ) → startsAt first mark ≡ true → eqb mark 1 ≡ false

@@ -8,16 +8,17 @@ use lib.ListN.{length, getD, set, replicate, length-set, length-replicate}
 use lib.Seq.{getD-set-same, getD-set-other}
 use lib.Dec.{eqb}
 use borrow.Author.Tests.{eqb-true, eqb-false, eq-eqb, ne-eqb}
+use Rattle.loops.proofs.EachLaws.{over-keeps, each-all}
+use Rattle.loops.proofs.SetLaws.{set-either}
+use Rattle.loops.specs.Each.{over, Each}
 use Rattle.loops.specs.Loop.{loop, Run, on, out, turn}
 use Rattle.loops.proofs.LoopLaws.{loop-keeps}
 use Rattle.loops.proofs.Cases.{by-cases, by-test, never}
-use Rattle.contours.specs.Chain.{nothing, over, Leads, Walk, Chain, walk, ended, stepTo, follow, chainOf, walkFrom, chainFrom, startsAt, Tables, tables, joined, blank, tablesOf}
-use Rattle.contours.specs.March.{Each}
+use Rattle.contours.specs.Chain.{nothing, Leads, Walk, Chain, walk, ended, stepTo, follow, chainOf, walkFrom, chainFrom, startsAt, Tables, tables, joined, blank, tablesOf}
 use Rattle.contours.specs.Traced.{Below}
 use Rattle.contours.specs.Used.{used, has, Once, Follows, Owns, Edges, edges, followedAt, followedAll, followedOf}
 use Rattle.contours.specs.declared.square.Segment.{Segment}
-use Rattle.contours.proofs.ChainLaws.{set-either, over-keeps, tables-lead}
-use Rattle.contours.proofs.SegmentLaws.{each-all}
+use Rattle.contours.proofs.ChainLaws.{tables-lead}
 use Rattle.contours.proofs.TourLaws.{unused-start}
 
 -- ---- lists of numbers

@@ -6,6 +6,7 @@ use mathlib.Core.List.{List, [], _∷_, _++_, map}
 use lib.ListN.{length, getD, set, replicate}
 use lib.Dec.{eqb, ltb}
 use lib.Ieee.{Float, binary64, ofBits, lt}
+use Rattle.loops.specs.Each.{over}
 use Rattle.loops.specs.Loop.{loop, Run, on, out, turn}
 use Rattle.geom.specs.Vec.{distanceOf}
 use Rattle.geom.specs.declared.vec2.Vec2.{Vec2}
@@ -19,11 +20,6 @@ use Rattle.contours.specs.Edge.{Between, crossingAt}
 use Rattle.contours.specs.Piece.{Piece}
 use Rattle.contours.specs.declared.edge.EdgeNo.{EdgeNo}
 use Rattle.contours.specs.declared.chain.Trail.{Trail}
-
--- for x in l { s = f(x, s) }
-unfoldable pub over : {A S : Type 0} → (A → S → S) → List A → S → S
-over f [] s = s
-over f (x ∷ l) s = over f l (f x s)
 
 -- stands for no edge
 abbrev pub nothing : ℕ

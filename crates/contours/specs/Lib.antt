@@ -7,6 +7,3 @@ pub mod Chain
 pub mod Traced
 pub mod Used
 pub mod Smooth
-pub mod Field
-pub mod Gauge
-pub mod Round

@@ -58,8 +58,3 @@ pub record Gathered (l : List Segment) (m : ℕ) (w : List ℕ) (r : ℕ) (w′ 
   pub is : segmentsOf r w′ ≡ l
   pub few : r ≤ m
   pub long : length w′ ≡ length w
-
--- P holds of every one of a list
-unfoldable pub Each : {A : Type 0} → (A → Type 0) → List A → Type 0
-Each P [] = Unit
-Each P (x ∷ l) = P x × Each P l

@@ -5,7 +5,8 @@ use mathlib.Core.List.{List, [], _∷_, _++_}
 use Prim.Native.Nat.{ℕ}
 use lib.ListN.{getD}
 use lib.Dec.{eqb}
-use Rattle.contours.specs.Chain.{over, Chain, chainFrom, startsAt, tablesOf}
+use Rattle.loops.specs.Each.{over}
+use Rattle.contours.specs.Chain.{Chain, chainFrom, startsAt, tablesOf}
 use Rattle.contours.specs.declared.square.Segment.{Segment}
 
 abbrev pub used : List ℕ → ℕ → Bool

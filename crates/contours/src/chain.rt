@@ -2,12 +2,12 @@
 ghost use mathlib.Core.Path.{_≡_};
 ghost use Prim.Native.Nat.{_+_, _*_, _≤_, _<_};
 ghost use lib.ListN.{length};
+ghost use Rattle.loops.specs.Each.{Each};
 ghost use Rattle.raster.specs.Grid.{Over};
 ghost use Rattle.contours.specs.Chain.{keptOf, putKept, pointAt, Chaining, Followed, edge, chains, chained, startsAt, startAt, chainAll};
 ghost use Rattle.contours.specs.Traced.{nextIn, segmentsAt, piecesIn, Startable, Tracing, Traced};
 ghost use Rattle.contours.specs.Edge.{Between};
 ghost use Rattle.contours.specs.Square.{Joins};
-ghost use Rattle.contours.specs.March.{Each};
 use super::edge::EdgeNo;
 use super::edge::crossing;
 use super::piece::Row;

@@ -2,32 +2,17 @@
 // words have three parts for n cells: segments (4 n), next edges (2 n), rows of pieces (3 n).
 ghost use mathlib.Core.Path.{_≡_};
 ghost use Prim.Native.Nat.{_*_, _≤_};
-ghost use lib.ListN.{length, replicate};
-ghost use Rattle.contours.specs.Chain.{nothing};
+ghost use lib.ListN.{length};
 ghost use Rattle.raster.specs.Grid.{Over};
 ghost use Rattle.contours.specs.March.{march};
 ghost use Rattle.contours.specs.Traced.{Listed, Joined, Sized, Tabled};
 use super::march::march;
 use raster::grid::Grid;
+use setup::fill::fill_bytes;
+use setup::fill::fill_words;
 
 // Stands for no edge.
 pub const NOTHING: u32 = 4294967295;
-
-fn clear_next(next: &mut [u32])
-    ensures { λ _. ⌜ now (next .exit) ≡ replicate (length (now (next .entry))) nothing ⌝ }
-{
-    for k in 0..next.len() {
-        next[k] = NOTHING;
-    }
-}
-
-pub fn clear_marks(marks: &mut [u8])
-    ensures { λ _. ⌜ now (marks .exit) ≡ replicate (length (now (marks .entry))) 0 ⌝ }
-{
-    for k in 0..marks.len() {
-        marks[k] = 0;
-    }
-}
 
 // The m segments in turn: of those that leave one edge, the last one counts.
 fn join(n: usize, m: usize, words: &mut [u32], marks: &mut [u8])
@@ -58,8 +43,8 @@ pub fn tabulate(
     ensures { λ m. ⌜ Tabled g n (march g (now (f .entry)) level) m (now (words .exit)) (now (marks .exit)) ⌝ }
 {
     let m = march(g, f, level, &mut words[0..4 * n]);
-    clear_next(&mut words[4 * n..6 * n]);
-    clear_marks(marks);
+    fill_words(&mut words[4 * n..6 * n], NOTHING);
+    fill_bytes(marks, 0);
     join(n, m, words, marks);
     m
 }

@@ -13,3 +13,4 @@ pub mod MulMono
 pub mod DivMono
 pub mod ThresholdLaws
 pub mod SquareLaws
+pub mod NanLaws

@@ -1,8 +1,9 @@
 -- The laws of `loop`, which stand for the induction that each proof of a loop would do. Assumes nothing.
-use mathlib.Core.Path.{_≡_, refl, sym, ap, _∙_}
+use mathlib.Core.Path.{_≡_, refl, sym, ap, _∙_, subst}
 use mathlib.Core.Bool.{Bool, true, false, _||_}
-use Prim.Native.Nat.{ℕ, zero, suc, _+_, _-_, _≤_, _<_, max}
+use Prim.Native.Nat.{ℕ, zero, suc, _+_, _-_, _*_, _≤_, _<_, max}
 use native.Mathlib.Omega.{arith}
+use native.Mathlib.Nat.{suc-mul}
 use Rattle.loops.specs.Loop.{turns, loop, Run, on, out, turn, orAt, any}
 
 module _ {S : Type 0} (f : ℕ → S → S) (a : ℕ) where
@@ -74,6 +75,36 @@ module _ {S : Type 0} (f : ℕ → S → S) (a e : ℕ) (s : S) where
   -- answers `returns`
   pub going-end : (t : S) (k : ℕ) → Going f a e s t k → e ≤ k → t ≡ loop f a e s
   going-end t k g h = g .is ∙ loop-end f a k e s (g .low) h (g .high)
+
+-- ---- two loops in step
+
+module _ {S U : Type 0} (f : ℕ → S → S) (g : ℕ → U → U) (R : ℕ → S → U → Type 0) (a : ℕ) where
+  turns-both : (n : ℕ) → ((i : ℕ) (s : S) (u : U) → a ≤ i → i < a + n → R i s u → R (i + 1) (f i s) (g i u)) → (s : S) (u : U) → R a s u → R (a + n) (turns f a n s) (turns g a n u)
+  unfolding turns
+  turns-both zero h s u r = subst (λ (k : ℕ). R k s u) (let z : a ≡ a + zero = omega arith in z) r
+  turns-both (suc n) h s u r =
+      subst (λ (k : ℕ). R k (f (a + n) (turns f a n s)) (g (a + n) (turns g a n u))) (let z : a + n + 1 ≡ a + suc n = omega arith in z)
+      (h (a + n) (turns f a n s) (turns g a n u) (omega arith) (omega arith) (turns-both n (λ i s u b c q. h i s u b (omega arith) q) s u r))
+
+  -- what relates the states of two loops turn by turn relates what they leave
+  pub loop-both : (e : ℕ) → a ≤ e → ((i : ℕ) (s : S) (u : U) → a ≤ i → i < e → R i s u → R (i + 1) (f i s) (g i u)) → (s : S) (u : U) → R a s u → R e (loop f a e s) (loop g a e u)
+  unfolding loop
+  loop-both e l h s u r =
+      subst (λ (k : ℕ). R k (turns f a (e - a) s) (turns g a (e - a) u)) (let z : a + (e - a) ≡ e = omega arith in z)
+      (turns-both (e - a) (λ i s u b c q. h i s u b (omega arith) q) s u r)
+
+-- ---- a loop that grows
+
+module _ {S : Type 0} (f : ℕ → S → S) (size : S → ℕ) (a c : ℕ) where
+  turns-few : (n : ℕ) → ((i : ℕ) (s : S) → size (f i s) ≤ size s + c) → (s : S) → size (turns f a n s) ≤ size s + n * c
+  unfolding turns
+  turns-few zero h s = omega arith
+  turns-few (suc n) h s = omega (arith, h (a + n) (turns f a n s), turns-few n h s, suc-mul n c)
+
+  -- a loop whose turns add at most c each
+  pub loop-few : (e : ℕ) → ((i : ℕ) (s : S) → size (f i s) ≤ size s + c) → (s : S) → size (loop f a e s) ≤ size s + (e - a) * c
+  unfolding loop
+  loop-few e h s = turns-few (e - a) h s
 
 -- ---- a loop that is left from inside
 

@@ -2,3 +2,4 @@
 pub mod Loop
 pub mod Regions
 pub mod Cells
+pub mod Each

@@ -8,7 +8,7 @@ use lib.Ieee.{Float}
 use borrow.Author.Needs.{needs}
 use borrow.Author.Tests.{ne-eqb}
 use Rattle.loops.specs.Cells.{ones}
-use Rattle.loops.proofs.CellLaws.{ones-le}
+use Rattle.loops.proofs.CellLaws.{ones-le, ones-mark}
 use Rattle.geom.specs.Points.{putPoint}
 use Rattle.geom.specs.declared.vec2.Vec2.{Vec2}
 use Rattle.raster.specs.declared.grid.Grid.{Grid}
@@ -16,7 +16,6 @@ use Rattle.contours.specs.declared.chain.Trail.{Trail}
 use Rattle.contours.specs.Edge.{Between}
 use Rattle.contours.specs.Chain.{nothing, edge, pointAt, Chaining}
 use Rattle.contours.proofs.EdgeLaws.{edge-below}
-use Rattle.contours.proofs.ChainLaws.{ones-mark}
 use Rattle.contours.proofs.FollowLaws.{Following, following-none, following-more, out-open, out-closed, out-used, point-room, first-room}
 use Rattle.contours.proofs.chain.chain.Statement.{statement}
 use Rattle.contours.proofs.chain.chain.Tie as tie

@@ -21,29 +21,29 @@ part-march-end c = search needs
 march-requires : tie.Need-march-requires
 march-requires c κs = search needs
 
-mul-clear-next : tie.Need-mul-clear-next
-mul-clear-next c = search needs
+mul-fill-words : tie.Need-mul-fill-words
+mul-fill-words c = search needs
 
-mul-clear-next-2 : tie.Need-mul-clear-next-2
-mul-clear-next-2 c = search needs
+mul-fill-words-2 : tie.Need-mul-fill-words-2
+mul-fill-words-2 c = search needs
 
-mul-clear-next-3 : tie.Need-mul-clear-next-3
-mul-clear-next-3 c = search needs
+mul-fill-words-3 : tie.Need-mul-fill-words-3
+mul-fill-words-3 c = search needs
 
-sub-clear-next : tie.Need-sub-clear-next
-sub-clear-next c = search needs
+sub-fill-words : tie.Need-sub-fill-words
+sub-fill-words c = search needs
 
-part-clear-next-start : tie.Need-part-clear-next-start
-part-clear-next-start c = search needs
+part-fill-words-start : tie.Need-part-fill-words-start
+part-fill-words-start c = search needs
 
-part-clear-next-end : tie.Need-part-clear-next-end
-part-clear-next-end c = search needs
+part-fill-words-end : tie.Need-part-fill-words-end
+part-fill-words-end c = search needs
 
-clear-next-requires : tie.Need-clear-next-requires
-clear-next-requires c κs = search needs
+fill-words-requires : tie.Need-fill-words-requires
+fill-words-requires c κs = search needs
 
-clear-marks-requires : tie.Need-clear-marks-requires
-clear-marks-requires c κs = search needs
+fill-bytes-requires : tie.Need-fill-bytes-requires
+fill-bytes-requires c κs = search needs
 
 join-requires : tie.Need-join-requires
 unfolding within
@@ -52,9 +52,9 @@ join-requires c κs =
     let p = c .before .before .before .before .before .before .before .before .before .before .before .before .before .before .before .before .before .pre in
     listed (a .g) (a .f .now) (a .level) (a .n) _ (a .words .now) (a .marks .now) _ (p .0) (p .1) (c .before .before .before .before .before .before .before .before .before .before .before .before .march .ensures) _ _ _ _
     refl
-    (c .before .before .before .before .before .before .before .before .clear-next .ensures)
+    (c .before .before .before .before .before .before .before .before .fill-words .ensures)
     refl
-    (c .before .before .before .before .clear-marks .ensures)
+    (c .before .before .before .before .fill-bytes .ensures)
 
 same-length : tie.Need-same-length
 same-length c = search needs
@@ -69,9 +69,9 @@ returns c =
     let p = c .before .before .before .before .before .before .before .before .before .before .before .before .before .before .before .before .before .before .before .before .before .before .pre in
     tabled (a .g) (a .f .now) (a .level) (a .n) _ (a .words .now) (a .marks .now) _ (p .0) (p .1) (c .before .before .before .before .before .before .before .before .before .before .before .before .before .before .before .before .before .march .ensures) _ _ _ _
     refl
-    (c .before .before .before .before .before .before .before .before .before .before .before .before .before .clear-next .ensures)
+    (c .before .before .before .before .before .before .before .before .before .before .before .before .before .fill-words .ensures)
     refl
-    (c .before .before .before .before .before .before .before .before .before .clear-marks .ensures) _ _ (c .before .before .before .before .join .ensures)
+    (c .before .before .before .before .before .before .before .before .before .fill-bytes .ensures) _ _ (c .before .before .before .before .join .ensures)
 
 pub tabulate-spec : {M : Type 1} → statement M
 tabulate-spec =
@@ -82,14 +82,14 @@ tabulate-spec =
     part-march-start
     part-march-end
     march-requires
-    mul-clear-next
-    mul-clear-next-2
-    mul-clear-next-3
-    sub-clear-next
-    part-clear-next-start
-    part-clear-next-end
-    clear-next-requires
-    clear-marks-requires
+    mul-fill-words
+    mul-fill-words-2
+    mul-fill-words-3
+    sub-fill-words
+    part-fill-words-start
+    part-fill-words-end
+    fill-words-requires
+    fill-bytes-requires
     join-requires
     same-length
     same-length-2

@@ -1,0 +1,99 @@
+-- A sweep of the field keeps its length, and no more cells are sampled than are passed; what is not wanted is as it was. Assumes nothing.
+use mathlib.Core.Path.{_≡_, refl, sym, ap, _∙_, subst}
+use mathlib.Core.Bool.{Bool, true, false, cond, true≢false}
+use mathlib.Core.List.{List}
+use Prim.Native.Nat.{ℕ, _+_, _-_, _*_, _≤_, _<_, max}
+use native.Mathlib.Omega.{arith}
+use native.Mathlib.Nat.{add-mul}
+use lib.ListN.{length, getD, set, length-set, replicate, getD-replicate}
+use lib.Seq.{getD-set-other}
+use lib.Dec.{eqb}
+use lib.Ieee.{Float, nan}
+use Rattle.loops.specs.Loop.{loop}
+use Rattle.loops.specs.Cells.{number}
+use Rattle.loops.proofs.Cases.{by-cases}
+use Rattle.loops.proofs.LoopLaws.{loop-end, loop-keeps, loop-both}
+use Rattle.distance.specs.Nearest.{squaresOf}
+use Rattle.setup.specs.declared.Setup.{Setup}
+use Rattle.field.specs.Field.{valueAt, wantedAt, Sensed, sensed, putValue, fieldCell, fieldRow, fieldRows, fieldOf}
+use Rattle.field.specs.declared.gauge.Value.{Value}
+
+-- the field is L long, and at most n cells of it were sampled
+pub record Swept (L n : ℕ) (t : Sensed) : Type 0 where
+  pub long : length (t .field) ≡ L
+  pub few : t .sampled ≤ n
+
+put-swept : (L n k : ℕ) (v : Float) (b : Bool) (t : Sensed) → Swept L n t → Swept L (n + 1) (sensed (set (t .field) k v) (cond b (t .sampled + 1) (t .sampled)))
+put-swept L n k v true t s = record { long = length-set (t .field) k v ∙ s .long; few = omega (arith, s .few) }
+put-swept L n k v false t s = record { long = length-set (t .field) k v ∙ s .long; few = omega (arith, s .few) }
+
+cell-cases : (L n k : ℕ) (v : Value) (w : Bool) (t : Sensed) → Swept L n t → Swept L (n + 1) (cond w (putValue k v t) t)
+unfolding putValue
+cell-cases L n k v true t s = put-swept L n k (v .v) (v .sampled) t s
+cell-cases L n k v false t s = record { long = s .long; few = omega (arith, s .few) }
+
+module _ (s : Setup) (all : Bool) (map allowed stock near : List ℕ) (L : ℕ) where
+  cell-swept : (j i n : ℕ) (t : Sensed) → Swept L n t → Swept L (n + 1) (fieldCell s all map allowed stock near j i t)
+  unfolding fieldCell
+  cell-swept j i n t h = cell-cases L n (number (s .grid .nx) i j) (valueAt s map stock i j) (wantedAt s all allowed near (number (s .grid .nx) i j)) t h
+
+  -- the cells of row j before cell k
+  pub row-run : (j k : ℕ) (t : Sensed) → 1 ≤ k → Swept L (j * s .grid .nx) t → Swept L (j * s .grid .nx + k) (loop (fieldCell s all map allowed stock near j) 1 k t)
+  row-run j k t a h =
+      loop-both (fieldCell s all map allowed stock near j) (fieldCell s all map allowed stock near j) (λ i u v. Swept L (j * s .grid .nx + i) u) 1 k a
+      (λ i u v b c q. let z = cell-swept j i (j * s .grid .nx + i) u q in record { long = z .long; few = omega (arith, z .few) })
+      t t (record { long = h .long; few = omega (arith, h .few) })
+
+  pub row-swept : (j : ℕ) (t : Sensed) → 0 < s .grid .nx → Swept L (j * s .grid .nx) t → Swept L ((j + 1) * s .grid .nx) (fieldRow s all map allowed stock near j t)
+  unfolding fieldRow
+  row-swept j t a h =
+      let k = max 1 (s .grid .nx - 1) in
+      let z = row-run j k t (omega arith) h in
+      let e = loop-end (fieldCell s all map allowed stock near j) 1 k (s .grid .nx - 1) t (omega arith) (omega arith) (omega arith) in
+      let q = subst (Swept L (j * s .grid .nx + k)) e z in
+      record { long = q .long; few = omega (arith, q .few, add-mul j 1 (s .grid .nx)) }
+
+  -- the rows before row k
+  pub rows-run : (k : ℕ) (t : Sensed) → 0 < s .grid .nx → 1 ≤ k → Swept L 0 t → Swept L (k * s .grid .nx) (loop (fieldRow s all map allowed stock near) 1 k t)
+  rows-run k t a b h =
+      loop-both (fieldRow s all map allowed stock near) (fieldRow s all map allowed stock near) (λ j u v. Swept L (j * s .grid .nx) u) 1 k b
+      (λ j u v c d q. row-swept j u a q) t t (record { long = h .long; few = omega (arith, h .few) })
+
+-- ---- a cell that is not wanted keeps its value
+
+module _ (s : Setup) (all : Bool) (map allowed stock near : List ℕ) (k : ℕ) (h : wantedAt s all allowed near k ≡ false) where
+  cell-kept : (x : Float) (j i : ℕ) (t : Sensed) → getD (t .field) k nan ≡ x → getD (fieldCell s all map allowed stock near j i t .field) k nan ≡ x
+  unfolding fieldCell putValue
+  cell-kept x j i t e = by-cases (wantedAt s all allowed near (number (s .grid .nx) i j))
+      (λ w. rw w (getD-set-other (t .field) (number (s .grid .nx) i j) k _ nan (λ z. true≢false (sym w ∙ ap (wantedAt s all allowed near) (sym z) ∙ h)) ∙ e))
+      (λ w. rw w e)
+
+  pub rows-kept : (t : Sensed) → getD (fieldRows s all map allowed stock near t .field) k nan ≡ getD (t .field) k nan
+  unfolding fieldRows fieldRow
+  rows-kept t =
+      let x = getD (t .field) k nan in
+      let P : Sensed → Type 0 = λ u. getD (u .field) k nan ≡ x in
+      loop-keeps (fieldRow s all map allowed stock near) 1 P (s .grid .ny - 1)
+      (λ j u a b p. loop-keeps (fieldCell s all map allowed stock near j) 1 P (s .grid .nx - 1) (λ i v c d q. cell-kept x j i v q) u p) t refl
+
+-- ---- of the field of a round
+
+not-allowed : (s : Setup) (all : Bool) (allowed near : List ℕ) (k : ℕ) → eqb (getD allowed k 0) 1 ≡ false → wantedAt s all allowed near k ≡ false
+unfolding wantedAt
+not-allowed s all allowed near k e = rw e refl
+
+module _ (s : Setup) (map allowed stock dirty : List ℕ) (f : List Float) (k : ℕ) where
+  -- where it is not worked out anew it is that of the last round
+  pub field-kept : wantedAt s false allowed (squaresOf 1 dirty (s .grid .nx) (s .grid .ny)) k ≡ false → getD (fieldOf s false map allowed stock dirty f .field) k nan ≡ getD f k nan
+  unfolding fieldOf
+  field-kept h = rows-kept s false map allowed stock (squaresOf 1 dirty (s .grid .nx) (s .grid .ny)) k h (sensed f 0)
+
+  pub field-barred : eqb (getD allowed k 0) 1 ≡ false → getD (fieldOf s false map allowed stock dirty f .field) k nan ≡ getD f k nan
+  field-barred e = field-kept (not-allowed s false allowed (squaresOf 1 dirty (s .grid .nx) (s .grid .ny)) k e)
+
+  -- and NaN where the tool may not go, when all is worked out anew
+  pub field-none : eqb (getD allowed k 0) 1 ≡ false → k < length f → getD (fieldOf s true map allowed stock dirty f .field) k nan ≡ nan
+  unfolding fieldOf
+  field-none e h =
+      let near = squaresOf 1 dirty (s .grid .nx) (s .grid .ny) in
+      rows-kept s true map allowed stock near k (not-allowed s true allowed near k e) (sensed (replicate (length f) nan) 0) ∙ getD-replicate (length f) k nan nan h

@@ -1,0 +1,94 @@
+-- The tests by squares decide what the definition compares; a cell of the field is worked out as it says. Assumes nothing.
+use mathlib.Core.Path.{_≡_, refl, ap, _∙_}
+use mathlib.Core.Bool.{Bool, true, false}
+use mathlib.Core.List.{List}
+use Prim.Native.Nat.{ℕ, _+_}
+use lib.ListN.{getD, set}
+use lib.Dec.{eqb}
+use lib.Ieee.{Float, binary64, add, mul, div, lt}
+use Rattle.loops.specs.Cells.{number}
+use Rattle.numbers.specs.Narrow.{narrowOf}
+use Rattle.geom.specs.declared.vec2.Vec2.{Vec2}
+use Rattle.distance.specs.Limits.{lengthOf, passesOf}
+use Rattle.distance.specs.Rooted.{distanceOf}
+use Rattle.distance.specs.declared.limits.Bound.{Bound}
+use Rattle.raster.specs.Grid.{centerOf}
+use Rattle.raster.specs.Contact.{tau}
+use Rattle.setup.specs.Place.{contactAt}
+use Rattle.setup.specs.Limits.{f2}
+use Rattle.setup.specs.declared.Setup.{Setup}
+use Rattle.field.specs.Field.{f3h, s0, highOf, lowOf, reachOf, value, valueOf, valueAt, wantedAt, sensed, putValue, fieldCell}
+use Rattle.field.specs.Gauge.{bound, TestOf, Gauged}
+use Rattle.field.specs.declared.gauge.Test.{Test}
+use Rattle.field.specs.declared.gauge.Gauge.{Gauge}
+use Rattle.field.specs.declared.gauge.Value.{Value}
+
+-- ---- what a round fixes
+
+pub gauged : (s : Setup) (all : Bool) (far deep near : Test) (low full : Float) → TestOf (bound true (s .grid .cell) false (add binary64 (s .r) (mul binary64 f3h (s .grid .cell)))) far
+    → low ≡ lowOf s → TestOf (bound true (s .grid .cell) true low) deep
+    → TestOf (bound false (s .grid .cell) false (div binary64 (add binary64 (s .r) (mul binary64 f2 (s .grid .cell))) (s .grid .cell))) near
+    → full ≡ narrowOf tau → Gauged (record { setup = s; all = all; far = far; deep = deep; near = near; full = full })
+unfolding highOf reachOf
+gauged s all far deep near low full F L D N U = record {
+  far = F;
+  deep = record { is = D .is ∙ ap (bound true (s .grid .cell) true) L; limit = D .limit };
+  near = N;
+  full = U;
+}
+
+-- ---- a cell that is wanted
+
+module _ (g : Gauge) (h : Gauged g) (allowed near : List ℕ) (k : ℕ) where
+  pub wanted-not : eqb (getD allowed k 0) 1 ≡ false → false ≡ wantedAt (g .setup) (g .all) allowed near k
+  unfolding wantedAt
+  wanted-not e = rw e refl
+
+  module _ (e : eqb (getD allowed k 0) 1 ≡ true) where
+    pub wanted-all : g .all ≡ true → true ≡ wantedAt (g .setup) (g .all) allowed near k
+    unfolding wantedAt
+    wanted-all a = rw (e, a) refl
+
+    pub wanted-near : g .all ≡ false → (b : Bool) → b ≡ passesOf (g .near .bound .scaled) (g .near .bound .scale) (g .near .bound .strict) (g .near .bound .x) (getD near k 0) → b ≡ wantedAt (g .setup) (g .all) allowed near k
+    unfolding wantedAt passesOf lengthOf
+    wanted-near a b B = rw (e, a) (B ∙ ap (λ (q : Bound). passesOf (q .scaled) (q .scale) (q .strict) (q .x) (getD near k 0)) (h .near .is))
+
+-- ---- its value
+
+module _ (g : Gauge) (h : Gauged g) (map stock : List ℕ) (i j : ℕ) (b : Bool) (B : b ≡ lt (g .far .bound .x) (lengthOf (g .far .bound .scaled) (g .far .bound .scale) (getD stock (number (g .setup .grid .nx) i j) 0))) where
+  is-far : b ≡ lt (highOf (g .setup)) (mul binary64 (distanceOf (getD stock (number (g .setup .grid .nx) i j) 0)) (g .setup .grid .cell))
+  unfolding lengthOf
+  is-far = B ∙ ap (λ (q : Bound). lt (q .x) (lengthOf (q .scaled) (q .scale) (getD stock (number (g .setup .grid .nx) i j) 0))) (h .far .is)
+
+  pub value-far : b ≡ true → value s0 false ≡ valueAt (g .setup) map stock i j
+  unfolding valueAt valueOf
+  value-far e = rw (← is-far, e) refl
+
+  module _ (e : b ≡ false) (c : Bool) (C : c ≡ passesOf (g .deep .bound .scaled) (g .deep .bound .scale) (g .deep .bound .strict) (g .deep .bound .x) (getD stock (number (g .setup .grid .nx) i j) 0)) where
+    is-deep : c ≡ lt (mul binary64 (distanceOf (getD stock (number (g .setup .grid .nx) i j) 0)) (g .setup .grid .cell)) (lowOf (g .setup))
+    unfolding passesOf lengthOf
+    is-deep = C ∙ ap (λ (q : Bound). passesOf (q .scaled) (q .scale) (q .strict) (q .x) (getD stock (number (g .setup .grid .nx) i j) 0)) (h .deep .is)
+
+    pub value-deep : c ≡ true → value (g .full) false ≡ valueAt (g .setup) map stock i j
+    unfolding valueAt valueOf
+    value-deep d = rw (← is-far, e, ← is-deep, d, h .full) refl
+
+    pub value-sampled : c ≡ false → (p : Vec2) (a v : Float) → p ≡ centerOf (g .setup .grid) i j → a ≡ contactAt (g .setup) map p (g .setup .r) → v ≡ narrowOf a → value v true ≡ valueAt (g .setup) map stock i j
+    unfolding valueAt valueOf
+    value-sampled d p a v P A E = rw (← is-far, e, ← is-deep, d, ← P, ← A, ← E) refl
+
+-- ---- the cell
+
+module _ (s : Setup) (all : Bool) (map allowed stock near : List ℕ) (j i n : ℕ) (f : List Float) (w : Bool) (W : w ≡ wantedAt s all allowed near (number (s .grid .nx) i j)) where
+  pub cell-left : w ≡ false → sensed f n ≡ fieldCell s all map allowed stock near j i (sensed f n)
+  unfolding fieldCell
+  cell-left e = rw (← W, e) refl
+
+  module _ (e : w ≡ true) (v : Value) (E : v ≡ valueAt s map stock i j) where
+    pub cell-sampled : v .sampled ≡ true → sensed (set f (number (s .grid .nx) i j) (v .v)) (n + 1) ≡ fieldCell s all map allowed stock near j i (sensed f n)
+    unfolding fieldCell putValue
+    cell-sampled d = rw (← W, e, ← E, d) refl
+
+    pub cell-told : v .sampled ≡ false → sensed (set f (number (s .grid .nx) i j) (v .v)) n ≡ fieldCell s all map allowed stock near j i (sensed f n)
+    unfolding fieldCell putValue
+    cell-told d = rw (← W, e, ← E, d) refl

@@ -1,0 +1,132 @@
+-- Parts of the workspace that are lent and come back, and the field of a round from its steps. Assumes nothing.
+use mathlib.Core.Path.{_≡_, refl, sym, ap, _∙_, subst}
+use mathlib.Core.Bool.{Bool, true, false}
+use mathlib.Core.List.{List, _++_}
+use Prim.Native.Nat.{ℕ, _+_, _-_, _*_, _≤_, _<_}
+use native.Mathlib.Omega.{arith}
+use native.Mathlib.Nat.{mul-le-mul-right}
+use lib.ListN.{length, getD, set, take, drop, replicate, length-take, length-set}
+use lib.Seq.{take-at, drop-at, drop-append-add, ext-getD, getD-set-same, getD-set-other}
+use lib.Dec.{eqb, ltb}
+use lib.Ieee.{Float, nan}
+use borrow.Author.Tests.{eqb-true, eqb-false, ltb-true, ltb-false}
+use borrow.Rule.Slice.PartMut.{putMid}
+use Rattle.loops.proofs.LoopLaws.{loop-both}
+use Rattle.loops.specs.Loop.{loop}
+use Rattle.loops.specs.Regions.{Fits, within, put}
+use Rattle.loops.proofs.Cases.{by-cases}
+use Rattle.loops.proofs.RegionLaws.{region-long, put-is}
+use Rattle.distance.specs.Nearest.{listed, transformOf}
+use Rattle.distance.proofs.NearestLaws.{listed-long, listed-at}
+use Rattle.raster.specs.Grid.{Sides}
+use Rattle.raster.specs.declared.grid.Grid.{Grid}
+use Rattle.setup.specs.Layout.{run, putRun}
+use Rattle.field.specs.Round.{squaresPut, nearPut, Begun}
+
+-- ---- a loop that writes each place
+
+record Written {A : Type 0} (d : A) (g : ℕ → A) (L k : ℕ) (l : List A) : Type 0 where
+  long : length l ≡ L
+  at : (i : ℕ) → i < k → getD l i d ≡ g i
+
+module _ {A : Type 0} (d : A) (g : ℕ → A) where
+  abbrev pub writeAt : ℕ → List A → List A
+  writeAt k l = set l k (g k)
+
+  write-more : (L k : ℕ) (l : List A) → k < L → Written d g L k l → Written d g L (k + 1) (set l k (g k))
+  write-more L k l h w = record {
+    long = length-set l k (g k) ∙ w .long;
+    at = λ i b. by-cases (eqb i k)
+        (λ e. let z = eqb-true i k e in ap (λ (j : ℕ). getD (set l k (g k)) j d) z ∙ getD-set-same l k (g k) d (omega (arith, w .long)) ∙ ap g (sym z))
+        (λ e. let z = eqb-false i k e in getD-set-other l k i (g k) d z ∙ w .at i (below i k b z));
+  }
+    where
+      below : (i k : ℕ) → i < k + 1 → (i ≡ k → ⊥) → i < k
+      below i k b z = by-cases (ltb i k) (ltb-true i k) (λ t. absurd (z (let q : i ≡ k = omega (arith, ltb-false i k t) in q)))
+
+  written : (k : ℕ) (l : List A) → k ≤ length l → Written d g (length l) k (loop writeAt 0 k l)
+  written k l h =
+      loop-both writeAt writeAt (λ i u v. Written d g (length l) i u) 0 k (omega arith) (λ i u v a b w. write-more (length l) i u (omega arith) w) l l
+      (record { long = refl; at = λ i b. absurd (let z : ⊥ = omega arith in z) })
+
+  pub written-long : (k : ℕ) (l : List A) → k ≤ length l → length (loop writeAt 0 k l) ≡ length l
+  written-long k l h = written k l h .long
+
+  pub written-all : (l : List A) → loop writeAt 0 (length l) l ≡ listed (length l) g
+  written-all l =
+      let w = written (length l) l (omega arith) in
+      ext-getD d (loop writeAt 0 (length l) l) (listed (length l) g) (w .long ∙ sym (listed-long g d (length l)))
+      (λ i b. let h : i < length l = subst (λ (n : ℕ). i < n) (w .long) b in w .at i h ∙ sym (listed-at g d (length l) i h))
+
+-- ---- parts
+
+module _ {A : Type 0} where
+  pub part-is : (k n a e : ℕ) (w : List A) → a ≡ k * n → e ≡ a + n → take (e - a) (drop a w) ≡ run k n w
+  unfolding within
+  part-is k n a e w p q =
+      ap (λ (z : ℕ). take (z - a) (drop a w)) q ∙ ap (λ (z : ℕ). take (z + n - z) (drop z w)) p
+
+  pub part-long : (k n a e : ℕ) (w : List A) → a ≡ k * n → e ≡ a + n → k * n + n ≤ length w → length (take (e - a) (drop a w)) ≡ n
+  part-long k n a e w p q h = region-long a e w (record { start = omega arith; end = omega arith }) ∙ (let z : e - a ≡ n = omega arith in z)
+
+  pub run-long : (k n : ℕ) (w : List A) → k * n + n ≤ length w → length (run k n w) ≡ n
+  unfolding within
+  run-long k n w h = part-long k n (k * n) (k * n + n) w refl refl h
+
+  pub back-is : (k n a e : ℕ) (w r : List A) → a ≡ k * n → e ≡ a + n → k * n + n ≤ length w → putMid a (e - a) w r ≡ putRun k n r w
+  back-is k n a e w r p q h =
+      put-is a e w (record { start = omega arith; end = omega arith }) r r refl
+      ∙ ap (λ (z : ℕ). put a z r w) q ∙ ap (λ (z : ℕ). put z (z + n) r w) p
+
+  -- what is put twice
+  pub put-again : (a e : ℕ) (w x y : List A) → Fits a e w → length y ≡ e - a → put a e x (put a e y w) ≡ put a e x w
+  unfolding put
+  put-again a e w x y h l =
+      let s = h .start in
+      let m = h .end in
+      let front : length (take a w) ≡ a = simp length-take (omega arith) in
+      ap (λ (t : List A). t ++ (x ++ drop e (take a w ++ (y ++ drop e w)))) (take-at (take a w) (y ++ drop e w) a front)
+      ∙ ap (λ (t : List A). take a w ++ (x ++ t))
+      (ap (λ (k : ℕ). drop k (take a w ++ (y ++ drop e w))) (let z : e ≡ length (take a w) + (e - a) = omega arith in z)
+      ∙ drop-append-add (take a w) (y ++ drop e w) (e - a) ∙ drop-at y (drop e w) (e - a) l)
+
+-- ---- the steps of a round
+
+module _ (g : Grid) (h : Sides g) where
+  pub wide-cells : g .nx ≤ g .ny * g .nx
+  wide-cells = omega (arith, mul-le-mul-right (g .nx) (h .high))
+
+  module _ (n : ℕ) (N : n ≡ g .ny * g .nx) where
+    pub squares-is : (a c : ℕ) (b u t : List ℕ) → c + (g .ny * g .nx + 3 * g .nx) ≤ length u
+        → t ≡ transformOf 1 (take (a + n - a) (drop a b)) (g .nx) (g .ny) (take (c + (n + 3 * g .nx) - c) (drop c u))
+        → putMid c (c + (n + 3 * g .nx) - c) u t ≡ squaresPut g a c b u
+    unfolding squaresPut within
+    squares-is a c b u t l T =
+        let k = 3 * g .nx in
+        put-is c (c + (n + k)) u (record { start = omega arith; end = omega arith }) t t refl
+        ∙ ap (λ (q : List ℕ). put c (c + (n + k)) q u) T
+        ∙ ap (λ (z : ℕ). put c (c + (z + k)) (transformOf 1 (take (a + z - a) (drop a b)) (g .nx) (g .ny) (take (c + (z + k) - c) (drop c u))) u) N
+
+    pub near-is : (a c : ℕ) (b u v : List ℕ) → a ≡ 4 * n → c ≡ 1 * n → v ≡ squaresPut g a c b u → v ≡ nearPut g b u
+    unfolding nearPut
+    near-is a c b u v A C e =
+        e ∙ ap (λ (z : ℕ). squaresPut g z c b u) (A ∙ ap (λ (z : ℕ). 4 * z) N) ∙ ap (λ (z : ℕ). squaresPut g (4 * (g .ny * g .nx)) z b u) (C ∙ ap (λ (z : ℕ). 1 * z) N)
+
+    pub begun-all : (all : Bool) (b u : List ℕ) (f t : List Float) → all ≡ true → g .ny * g .nx ≤ length f → t ≡ replicate (length (take (n - 0) (drop 0 f))) nan → Begun g all b u f u (putMid 0 (n - 0) f t)
+    begun-all all b u f t e l T = record {
+      words = rw e refl;
+      singles =
+          back-is 0 n 0 n f t (omega arith) (omega arith) (omega arith)
+          ∙ ap (λ (q : List Float). putRun 0 n q f) (T ∙ ap (λ (k : ℕ). replicate k nan) (part-long 0 n 0 n f (omega arith) (omega arith) (omega arith)))
+          ∙ ap (λ (k : ℕ). putRun 0 k (replicate k nan) f) N
+          ∙ rw e refl;
+    }
+
+    pub dirty-is : (a : ℕ) (b t : List ℕ) → a ≡ 4 * n → 5 * (g .ny * g .nx) ≤ length b → t ≡ replicate (length (take (a + n - a) (drop a b))) 0 → putMid a (a + n - a) b t ≡ putRun 4 (g .ny * g .nx) (replicate (g .ny * g .nx) 0) b
+    dirty-is a b t A l T =
+        back-is 4 n a (a + n) b t A refl (omega arith)
+        ∙ ap (λ (q : List ℕ). putRun 4 n q b) (T ∙ ap (λ (k : ℕ). replicate k 0) (part-long 4 n a (a + n) b A refl (omega arith)))
+        ∙ ap (λ (k : ℕ). putRun 4 k (replicate k 0) b) N
+
+pub begun-near : (g : Grid) (all : Bool) (b u : List ℕ) (f : List Float) (v : List ℕ) → all ≡ false → v ≡ nearPut g b u → Begun g all b u f v f
+begun-near g all b u f v e d = record { words = d ∙ rw e refl; singles = rw e refl }

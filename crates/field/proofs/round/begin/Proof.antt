@@ -1,0 +1,50 @@
+-- `field::round::begin` meets its contract. Assumes nothing.
+use Rattle.field.proofs.RoundLaws.{begun-all, begun-near}
+use borrow.Author.Needs.{needs}
+use Rattle.field.proofs.round.begin.Statement.{statement}
+use Rattle.field.proofs.round.begin.Tie as tie
+
+cells-requires : tie.Need-cells-requires
+cells-requires c κs = search needs
+
+sub-fill : tie.Need-sub-fill
+sub-fill c = search needs
+
+part-fill-start : tie.Need-part-fill-start
+part-fill-start c = search needs
+
+part-fill-end : tie.Need-part-fill-end
+part-fill-end c = search needs
+
+fill-requires : tie.Need-fill-requires
+fill-requires c κs = search needs
+
+same-length : tie.Need-same-length
+same-length c = search needs
+
+returns : tie.Need-returns
+returns c = begun-all _ (c .before .before .before .before .before .before .before .before .before .pre .0) _ (c .before .before .before .before .cells .ensures) _ _ _ _ _ (c .before .before .before .before .before .if1 .taken) (c .before .before .before .before .before .before .before .before .before .pre .1 .1 .1) (c .before .before .fill .ensures)
+
+near-squares-requires : tie.Need-near-squares-requires
+near-squares-requires c κs = search needs
+
+same-length-2 : tie.Need-same-length-2
+same-length-2 c = search needs
+
+returns-2 : tie.Need-returns-2
+returns-2 c = begun-near _ _ _ _ _ _ (c .before .before .before .before .if1 .left) (c .before .before .near-squares .ensures)
+
+pub begin-spec : {M : Type 1} → statement M
+begin-spec =
+    tie.close
+    (tie.spec
+    cells-requires
+    sub-fill
+    part-fill-start
+    part-fill-end
+    fill-requires
+    same-length
+    returns
+    near-squares-requires
+    same-length-2
+    returns-2)

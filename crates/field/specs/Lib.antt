@@ -1,0 +1,4 @@
+-- What the contracts of `field` cite.
+pub mod Field
+pub mod Gauge
+pub mod Round

@@ -1,0 +1,136 @@
+// What a round of the engagement field fixes once, and the field at one cell. Distances stay squares of
+// whole numbers.
+ghost use mathlib.Core.Path.{_≡_};
+ghost use Prim.Native.Nat.{_*_, _≤_, _<_};
+ghost use lib.ListN.{length};
+ghost use Rattle.raster.specs.Grid.{Over};
+ghost use Rattle.raster.specs.Contact.{samplesOf, Rim};
+ghost use Rattle.field.specs.Field.{lowOf, valueAt, wantedAt};
+ghost use Rattle.field.specs.Gauge.{TestOf, Gauged};
+use distance::limits::Bound;
+use distance::limits::Limit;
+use distance::limits::beyond;
+use distance::limits::limit_of;
+use distance::limits::within;
+use setup::Setup;
+
+const TAU: f64 = 6.28318530717958647692528676655900577;
+
+// A bound of distances, and the limit of their squares.
+pub struct Test {
+    pub bound: Bound,
+    pub limit: Limit,
+}
+
+// What a round fixes: `far` tells cells that no stock is near to, `deep` those deep in stock, `near` those
+// that a cut since the last round changed, unless all are worked out anew; `full` is a full turn.
+pub struct Gauge {
+    pub setup: Setup,
+    pub all: bool,
+    pub far: Test,
+    pub deep: Test,
+    pub near: Test,
+    pub full: f32,
+}
+
+// The field at a cell, and whether it was sampled.
+pub struct Value {
+    pub v: f32,
+    pub sampled: bool,
+}
+
+fn test_of(b: Bound) -> Test
+    ensures { λ t. ⌜ TestOf b t ⌝ }
+{
+    let limit = limit_of(b);
+    Test { bound: b, limit }
+}
+
+fn low_of(s: Setup) -> f64
+    ensures { λ x. ⌜ x ≡ lowOf s ⌝ }
+{
+    let bite = s.r * (1.0 - numbers::circle::cos(s.target));
+    let c = s.grid.cell;
+    s.r - bite - 3.0 * c
+}
+
+pub fn gauge_of(s: Setup, all: bool) -> Gauge
+    ensures { λ g. ⌜ (g .setup ≡ s) × (g .all ≡ all) × Gauged g ⌝ }
+{
+    let c = s.grid.cell;
+    let far = test_of(Bound {
+        scaled: true,
+        scale: c,
+        strict: false,
+        x: s.r + 1.5 * c,
+    });
+    let deep = test_of(Bound {
+        scaled: true,
+        scale: c,
+        strict: true,
+        x: low_of(s),
+    });
+    let near = test_of(Bound {
+        scaled: false,
+        scale: c,
+        strict: false,
+        x: (s.r + 2.0 * c) / c,
+    });
+    Gauge {
+        setup: s,
+        all,
+        far,
+        deep,
+        near,
+        full: numbers::narrow::narrow(TAU),
+    }
+}
+
+// Whether cell k is to be worked out.
+pub fn wanted(g: Gauge, allowed: &[u8], near: &[u32], k: usize) -> bool
+    requires { ⌜ Gauged g ⌝ }
+    requires { ⌜ (k < length (now allowed)) × (k < length (now near)) ⌝ }
+    ensures { λ b. ⌜ b ≡ wantedAt (g .setup) (g .all) (now (allowed .entry)) (now (near .entry)) k ⌝ }
+{
+    if allowed[k] == 1 {
+        if g.all {
+            return true;
+        }
+        let t = g.near;
+        return within(t.bound, t.limit, near[k]);
+    }
+    false
+}
+
+pub fn value_at(g: Gauge, map: &[u8], stock: &[u32], rim: &[f64], i: usize, j: usize) -> Value
+    requires { ⌜ Gauged g ⌝ }
+    requires { ⌜ Over (g .setup .grid) (length (now map)) ⌝ }
+    requires { ⌜ g .setup .grid .ny * g .setup .grid .nx ≤ length (now stock) ⌝ }
+    requires { ⌜ Rim (samplesOf (g .setup .samples)) (now rim) ⌝ }
+    requires { ⌜ (i < g .setup .grid .nx) × (j < g .setup .grid .ny) ⌝ }
+    ensures { λ v. ⌜ v ≡ valueAt (g .setup) (now (map .entry)) (now (stock .entry)) i j ⌝ }
+{
+    let s = g.setup;
+    let grid = s.grid;
+    let nx = grid.nx;
+    let square = stock[j * nx + i];
+    let far = g.far;
+    if beyond(far.bound, far.limit, square) {
+        return Value {
+            v: 0.0,
+            sampled: false,
+        };
+    }
+    let deep = g.deep;
+    if within(deep.bound, deep.limit, square) {
+        return Value {
+            v: g.full,
+            sampled: false,
+        };
+    }
+    let e = setup::place::contact(s, map, rim, raster::grid::center(grid, i, j), s.r);
+    Value {
+        v: numbers::narrow::narrow(e),
+        sampled: true,
+    }
+}

@@ -1,0 +1,87 @@
+// The engagement field of a round: at each allowed cell the angle of the tool's whole rim over stock.
+ghost use mathlib.Core.Path.{_≡_};
+ghost use Prim.Native.Nat.{_+_, _*_, _≤_, _<_};
+ghost use lib.ListN.{length};
+ghost use Rattle.loops.specs.Cells.{number};
+ghost use Rattle.field.specs.Field.{sensed, fieldCell, fieldRow, fieldRows};
+ghost use Rattle.field.specs.Gauge.{Gauged, Sensing};
+use super::gauge::Gauge;
+use super::gauge::value_at;
+use super::gauge::wanted;
+
+// Works out cell (i, j) if it is wanted; how many cells were sampled, with it.
+fn field_cell(
+    g: Gauge,
+    map: &[u8],
+    allowed: &[u8],
+    stock: &[u32],
+    near: &[u32],
+    rim: &[f64],
+    f: &mut [f32],
+    j: usize,
+    i: usize,
+    sampled: usize,
+) -> usize
+    requires { ⌜ Gauged g ⌝ }
+    requires { ⌜ Sensing (g .setup) (now map) (now allowed) (now stock) (now near) (now rim) (length (now f)) ⌝ }
+    requires { ⌜ (i < g .setup .grid .nx) × (j < g .setup .grid .ny) × (sampled ≤ number (g .setup .grid .nx) i j) ⌝ }
+    ensures { λ n. ⌜ sensed (now (f .exit)) n ≡ fieldCell (g .setup) (g .all) (now (map .entry)) (now (allowed .entry)) (now (stock .entry)) (now (near .entry)) j i (sensed (now (f .entry)) sampled) ⌝ }
+{
+    let nx = g.setup.grid.nx;
+    let k = j * nx + i;
+    if wanted(g, allowed, near, k) {
+        let v = value_at(g, map, stock, rim, i, j);
+        f[k] = v.v;
+        if v.sampled {
+            return sampled + 1;
+        }
+    }
+    sampled
+}
+
+// Works out row j.
+fn field_row(
+    g: Gauge,
+    map: &[u8],
+    allowed: &[u8],
+    stock: &[u32],
+    near: &[u32],
+    rim: &[f64],
+    f: &mut [f32],
+    j: usize,
+    sampled: usize,
+) -> usize
+    requires { ⌜ Gauged g ⌝ }
+    requires { ⌜ Sensing (g .setup) (now map) (now allowed) (now stock) (now near) (now rim) (length (now f)) ⌝ }
+    requires { ⌜ (j < g .setup .grid .ny) × (sampled ≤ j * g .setup .grid .nx) ⌝ }
+    ensures { λ n. ⌜ sensed (now (f .exit)) n ≡ fieldRow (g .setup) (g .all) (now (map .entry)) (now (allowed .entry)) (now (stock .entry)) (now (near .entry)) j (sensed (now (f .entry)) sampled) ⌝ }
+{
+    let nx = g.setup.grid.nx;
+    let mut n = sampled;
+    for i in 1..nx - 1 {
+        n = field_cell(g, map, allowed, stock, near, rim, f, j, i, n);
+    }
+    n
+}
+
+// Works out the rows; how many cells were sampled.
+pub fn field_rows(
+    g: Gauge,
+    map: &[u8],
+    allowed: &[u8],
+    stock: &[u32],
+    near: &[u32],
+    rim: &[f64],
+    f: &mut [f32],
+) -> usize
+    requires { ⌜ Gauged g ⌝ }
+    requires { ⌜ Sensing (g .setup) (now map) (now allowed) (now stock) (now near) (now rim) (length (now f)) ⌝ }
+    ensures { λ n. ⌜ sensed (now (f .exit)) n ≡ fieldRows (g .setup) (g .all) (now (map .entry)) (now (allowed .entry)) (now (stock .entry)) (now (near .entry)) (sensed (now (f .entry)) 0) ⌝ }
+{
+    let ny = g.setup.grid.ny;
+    let mut n = 0;
+    for j in 1..ny - 1 {
+        n = field_row(g, map, allowed, stock, near, rim, f, j, n);
+    }
+    n
+}

@@ -1,0 +1,52 @@
+-- `setup::fill::fill_bytes` meets its contract. Assumes nothing.
+use mathlib.Core.Path.{_≡_, ap, _∙_}
+use Prim.Native.Nat.{_-_, _≤_}
+use native.Mathlib.Omega.{arith}
+use lib.ListN.{length, set}
+use borrow.Author.Needs.{needs}
+use Rattle.loops.proofs.FillLaws.{filled, filled-none, filled-more, filled-length, filled-end}
+use Rattle.setup.proofs.fill.fill_bytes.Statement.{statement}
+use Rattle.setup.proofs.fill.fill_bytes.Tie as tie
+
+abbrev Inv-loop : tie.InvT-loop
+Inv-loop b₀ v k₀ k-end b k = (b ≡ filled v k b₀) × (k ≤ length b₀)
+
+abbrev μ-loop : tie.MeasureT-loop
+μ-loop b₀ v k₀ k-end b k = length b₀ - k
+
+loop-holds : tie.Need-loop-holds Inv-loop μ-loop
+loop-holds c = (filled-none _ _, omega arith)
+
+slice-write-b : tie.Need-slice-write-b Inv-loop μ-loop
+slice-write-b c = let i = c .before .loop .inv in omega (arith, ap length (i .0), filled-length (c .before .before .args .v) (c .before .before .args .b .now) (c .before .loop .k) (i .1), c .loop-test .taken)
+
+add-k : tie.Need-add-k Inv-loop μ-loop
+add-k c = omega arith
+
+loop-less : tie.Need-loop-less Inv-loop μ-loop
+loop-less c = omega arith
+
+loop-again : tie.Need-loop-again Inv-loop μ-loop
+loop-again c =
+    let i = c .before .loop .inv in
+    (ap (λ l. set l (c .before .loop .k) (c .before .before .args .v)) (i .0) ∙ filled-more _ _ _ (c .loop-test .taken), omega (arith, c .loop-test .taken))
+
+same-length : tie.Need-same-length Inv-loop μ-loop
+same-length c = let i = c .before .loop .inv in ap length (i .0) ∙ filled-length _ _ _ (i .1)
+
+returns : tie.Need-returns Inv-loop μ-loop
+returns c = let i = c .before .loop .inv in i .0 ∙ filled-end _ _ _ (omega (arith, i .1, c .loop-test .left))
+
+pub fill-bytes-spec : {M : Type 1} → statement M
+fill-bytes-spec =
+    tie.close
+    (tie.spec
+    Inv-loop
+    μ-loop
+    loop-holds
+    slice-write-b
+    add-k
+    loop-less
+    loop-again
+    same-length
+    returns)
