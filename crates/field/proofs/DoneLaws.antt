@@ -22,6 +22,7 @@ use Rattle.field.specs.Field.{wantedAt, Sensed, sensed, fieldCell, field
 use Rattle.field.specs.Gauge.{Sensing}
 use Rattle.field.specs.Round.{squaresPut, stockPut, nearPut, Begun, Ready, rowsIn, Rowed, roundOf, Done}
 use Rattle.field.specs.declared.gauge.Gauge.{Gauge}
+use Rattle.field.proofs.FieldLaws.{field-length}
 use Rattle.field.proofs.RoundLaws.{part-is, part-long, run-long, back-is, put-again, wide-cells}
 
 -- ---- the rows, over parts
@@ -203,3 +204,23 @@ module _ (s : Setup) (b u : List ℕ) (w f : List Float) (h : Ready s b u w f) (
         bytes = C;
         words = B .words;
       }
+
+-- ---- what the field's region holds
+
+module _ (s : Setup) (all : Bool) (b u : List ℕ) (w f : List Float) (h : Ready s b u w f) (r : ℕ) (b′ u′ : List ℕ) (f′ : List Float) where
+  pub field-there : Done s all b u f r b′ u′ f′ → sensed (run 0 (s .grid .ny * s .grid .nx) f′) r ≡ roundOf s all b u f
+  unfolding roundOf
+  field-there d =
+      let n = s .grid .ny * s .grid .nx in
+      let t = roundOf s all b u f in
+      let l : 0 * n + n ≤ length f = omega (arith, h .lent .singles) in
+      let long : length (t .field) ≡ n = field-length s all (run 0 n b) (run 1 n b) (run 0 n u) (run 4 n b) (run 0 n f) ∙ run-long 0 n f l in
+      ap (λ (q : List Float). sensed q r) (ap (run 0 n) (d .singles) ∙ run-put n f (t .field) long 0 l) ∙ ap (sensed (t .field)) (d .sampled)
+
+-- with the squares to stock worked out before, it is the field of the map
+pub field-of-map : (s : Setup) (all : Bool) (b u : List ℕ) (f : List Float) → Sides (s .grid) → 4 * (s .grid .ny * s .grid .nx) ≤ length u → let n = s .grid .ny * s .grid .nx in
+    roundOf s all b (stockPut (s .grid) b u) f ≡ fieldOf s all (run 0 n b) (run 1 n b) (squaresOf 1 (run 0 n b) (s .grid .nx) (s .grid .ny)) (run 4 n b) (run 0 n f)
+unfolding roundOf
+field-of-map s all b u f h l =
+    let n = s .grid .ny * s .grid .nx in
+    ap (λ (q : List ℕ). fieldOf s all (run 0 n b) (run 1 n b) q (run 4 n b) (run 0 n f)) (stock-there (s .grid) h b u l)

@@ -5,7 +5,7 @@ use mathlib.Core.List.{List}
 use Prim.Native.Nat.{ℕ, _+_, _-_, _*_, _≤_, _<_, max}
 use native.Mathlib.Omega.{arith}
 use native.Mathlib.Nat.{add-mul}
-use lib.ListN.{length, getD, set, length-set, replicate, getD-replicate}
+use lib.ListN.{length, getD, set, length-set, replicate, length-replicate, getD-replicate}
 use lib.Seq.{getD-set-other}
 use lib.Dec.{eqb}
 use lib.Ieee.{Float, nan}
@@ -59,6 +59,14 @@ module _ (s : Setup) (all : Bool) (map allowed stock near : List ℕ) (L : ℕ) 
       loop-both (fieldRow s all map allowed stock near) (fieldRow s all map allowed stock near) (λ j u v. Swept L (j * s .grid .nx) u) 1 k b
       (λ j u v c d q. row-swept j u a q) t t (record { long = h .long; few = omega (arith, h .few) })
 
+  pub rows-long : (t : Sensed) → length (t .field) ≡ L → length (fieldRows s all map allowed stock near t .field) ≡ L
+  unfolding fieldRows fieldRow
+  rows-long t h =
+      let P : Sensed → Type 0 = λ u. length (u .field) ≡ L in
+      loop-keeps (fieldRow s all map allowed stock near) 1 P (s .grid .ny - 1)
+      (λ j u a b p. loop-keeps (fieldCell s all map allowed stock near j) 1 P (s .grid .nx - 1)
+      (λ i v c d q. cell-swept j i (v .sampled) v (record { long = q; few = omega arith }) .long) u p) t h
+
 -- ---- a cell that is not wanted keeps its value
 
 module _ (s : Setup) (all : Bool) (map allowed stock near : List ℕ) (k : ℕ) (h : wantedAt s all allowed near k ≡ false) where
@@ -77,6 +85,11 @@ module _ (s : Setup) (all : Bool) (map allowed stock near : List ℕ) (k : ℕ) 
       (λ j u a b p. loop-keeps (fieldCell s all map allowed stock near j) 1 P (s .grid .nx - 1) (λ i v c d q. cell-kept x j i v q) u p) t refl
 
 -- ---- of the field of a round
+
+pub field-length : (s : Setup) (all : Bool) (map allowed stock dirty : List ℕ) (f : List Float) → length (fieldOf s all map allowed stock dirty f .field) ≡ length f
+unfolding fieldOf
+field-length s true map allowed stock dirty f = rows-long s true map allowed stock (squaresOf 1 dirty (s .grid .nx) (s .grid .ny)) (length f) (sensed (replicate (length f) nan) 0) (length-replicate (length f) nan)
+field-length s false map allowed stock dirty f = rows-long s false map allowed stock (squaresOf 1 dirty (s .grid .nx) (s .grid .ny)) (length f) (sensed f 0) refl
 
 not-allowed : (s : Setup) (all : Bool) (allowed near : List ℕ) (k : ℕ) → eqb (getD allowed k 0) 1 ≡ false → wantedAt s all allowed near k ≡ false
 unfolding wantedAt

@@ -1,13 +1,14 @@
 //! The proved library beside the published Rust.
 //!
 //! `numbers` lists the functions to compare, `ffi` declares them, `inputs` has the numbers they are
-//! compared on; `distance`, `geom`, `raster`, `setup`, `contours` and `links` have the functions that
-//! are lent slices, and `planners` the planners whose fields are lent. The tests compare bits and the
+//! compared on; `distance`, `geom`, `raster`, `setup`, `field`, `contours` and `links` have the
+//! functions that are lent slices, and `planners` the planners whose fields are lent. The tests compare bits and the
 //! programs `bench` and `bench_distance` time.
 pub mod bits;
 pub mod contours;
 pub mod distance;
 pub mod ffi;
+pub mod field;
 pub mod geom;
 pub mod inputs;
 pub mod links;

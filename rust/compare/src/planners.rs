@@ -8,6 +8,11 @@ use oracle::vec2::{Vec2, v2};
 
 const JOBS: u64 = 60;
 
+/// Whether the sides of the planner's raster are those that document 01 lets through.
+pub fn sided(p: &Planner) {
+    assert!((1..=4096).contains(&p.nx) && (1..=4096).contains(&p.ny) && p.nx * p.ny <= 1_048_576);
+}
+
 /// A point of the raster or near it, one in three times a cell's centre.
 pub fn point(r: &mut Rng, p: &Planner) -> Vec2 {
     let o = p.m.origin;

@@ -2,10 +2,12 @@
 //! planner's own fields, and made ones with levels that equal a field value, saddles and cells where
 //! there is no number.
 use compare::bits::Bits;
-use compare::contours::{Rounds, Space};
+use compare::contours::{Space, smoothed};
+use compare::field::Rounds;
 use compare::planners::{cut, each};
 use oracle::generate::Rng;
 use oracle::planner::{Piece, Planner, smooth};
+use oracle::vec2::v2;
 
 fn same(got: &[Piece], want: &[Piece]) {
     assert_eq!(got.len(), want.len());
@@ -82,7 +84,13 @@ fn pieces_of_planned_fields() {
         let ring: Vec<f32> = p.allowed.iter().map(|&a| if a { 0.0 } else { 1.0 }).collect();
         met.check(&mut space, p, &ring, 0.5);
     });
-    assert!(met.pieces > 200 && met.closed > 50 && met.points > 30_000, "{} {} {}", met.pieces, met.closed, met.points);
+    assert!(
+        met.pieces > 200 && met.closed > 50 && met.points > 30_000,
+        "{} {} {}",
+        met.pieces,
+        met.closed,
+        met.points
+    );
 }
 
 /// A value of the kinds that are made: few different ones, so that levels equal them.
@@ -115,4 +123,28 @@ fn pieces_of_made_fields() {
         }
     });
     assert!(met.pieces > 100_000 && met.closed > 10_000, "{} {} {}", met.pieces, met.closed, met.points);
+}
+
+/// Short lists of few different numbers, zeros of both signs, infinities and NaN among them.
+#[test]
+fn made_points_smoothed() {
+    let mut r = Rng(43);
+    let mut points = 0;
+    for _ in 0..300_000 {
+        let n = r.below(9) as usize;
+        let kind = r.below(3);
+        let mut number = || match kind {
+            0 => r.range(-2.0, 2.0),
+            1 => r.pick(&[0.0, -0.0, 0.5, 1.0]),
+            _ => r.pick(&[0.0, -0.0, 1.0, f64::NAN, f64::INFINITY, f64::NEG_INFINITY, 1e308]),
+        };
+        let mut pts: Vec<_> = (0..n).map(|_| v2(number(), number())).collect();
+        let cell = r.pick(&[0.0, 0.1, 0.5, 1.0, f64::NAN, f64::INFINITY, -1.0]);
+        let closed = r.chance(0.5);
+        let got = Piece { pts: smoothed(&pts, closed, cell), closed };
+        smooth(&mut pts, closed, cell);
+        points += pts.len();
+        same(&[got], &[Piece { pts, closed }]);
+    }
+    assert!(points > 100_000, "{points}");
 }

@@ -1,7 +1,8 @@
 //! Times the proved field, pieces and smoothing beside the oracle's, which has a table of rim directions
 //! too, on the larger jobs after some cuts: `cargo run --release --bin bench_contours`. The field has to
 //! take at most the oracle's time.
-use compare::contours::{Rounds, Space};
+use compare::contours::Space;
+use compare::field::Rounds;
 use compare::planners::cut;
 use oracle::generate::{Rng, large};
 use oracle::hooks::Hooks;
@@ -52,7 +53,9 @@ fn main() {
         let field = time(|| {
             black_box(mine.field(&p, true));
         });
-        assert!(mine.values().iter().zip(&f).all(|(a, b)| a.to_bits() == b.to_bits() || a.is_nan() && b.is_nan()));
+        assert!(
+            mine.values().iter().zip(&f).all(|(a, b)| a.to_bits() == b.to_bits() || a.is_nan() && b.is_nan())
+        );
         let mut m = 0;
         let pieces = time(|| m = space.trace(&p, black_box(&f), level));
         let start = Instant::now();
@@ -67,6 +70,9 @@ fn main() {
         println!();
     }
     let share: Vec<f64> = (0..3).map(|k| ours[k] / theirs[k]).collect();
-    println!("of the oracle's time: field {:.2}, pieces {:.2}, smoothing {:.2}", share[0], share[1], share[2]);
+    println!(
+        "of the oracle's time: field {:.2}, pieces {:.2}, smoothing {:.2}",
+        share[0], share[1], share[2]
+    );
     assert!(share[0] <= 1.0, "the field takes longer than the oracle's");
 }
