@@ -40,7 +40,7 @@ pub extern "C" fn setup_samples_of(r: f64, cell: f64) -> usize
     setup::limits::samples_of(r, cell)
 }
 
-fn made(g: Grid, region: Region, r: f64, keep: f64, samples: usize) -> Setup
+pub fn made(g: Grid, region: Region, r: f64, keep: f64, samples: usize) -> Setup
     ensures { λ s. ⌜ (s ≡ placed g region r keep samples (s .bound)) × Bounds keep (s .bound) ⌝ }
 {
     let bound = numbers::bound::bound_of(keep);

@@ -1,5 +1,5 @@
 -- What slices hold: every heap holds one list, `push` adds to it, `pop` takes its first, and it is empty where n is 0. Assumes nothing.
-use mathlib.Core.Path.{_≡_, refl, sym, ap, _∙_}
+use mathlib.Core.Path.{_≡_, refl, sym, ap, _∙_, subst}
 use mathlib.Core.Bool.{Bool, true}
 use mathlib.Core.List.{List, [], _∷_}
 use Prim.Native.Nat.{ℕ, zero, suc, _+_, _-_, _≤_, _<_}
@@ -8,7 +8,7 @@ use lib.Dec.{T}
 use lib.ListN.{length, getD, set}
 use lib.Ieee.{Float, nan, binary64, fits}
 use Rattle.links.specs.declared.heap.Entry.{Entry}
-use Rattle.links.specs.Heap.{beforeOf, insert, one, count, countTo, Sorted, none, Ordered, entryAt, Lent, Holds, Pushed, Popped}
+use Rattle.links.specs.Heap.{beforeOf, insert, one, count, countTo, Sorted, none, Ordered, entryAt, listed, Lent, Holds, Pushed, Popped}
 use Rattle.links.specs.Sift.{Risen, Sunk}
 use Rattle.links.proofs.OrderLaws.{one-entry}
 use Rattle.links.proofs.OpenLaws.{unfit, fit-one, fit-not, count-insert, count-all, sorted-insert, sorted-one, sorted-rest, first-least, first-fails, to-none, to-fails, to-all}
@@ -36,11 +36,7 @@ pub holds-first : {A : Type 0} (l : List Entry) (ests : List Float) (nodes : Lis
 holds-first [] ests nodes n h p f = absurd (let d : ⊥ = omega (arith, holds-length h) in d)
 holds-first (e ∷ r) ests nodes n h p f = f e r refl
 
--- every heap holds a list: its entries, inserted one by one
-pub listed : (ℕ → Entry) → ℕ → List Entry
-listed f zero = []
-listed f (suc n) = insert (f n) (listed f n)
-
+-- every heap holds a list
 module _ (f : ℕ → Entry) where
   listed-sorted : (n : ℕ) → Sorted (listed f n)
   unfolding listed
@@ -110,3 +106,22 @@ module _ (ests : List Float) (nodes : List ℕ) where
               omega (arith, sinking-all (entryAt ests nodes) (n - 1) e (entryAt ests′ nodes′) _ k (r .sinking) w p, ap (countTo p (entryAt ests nodes)) z, H .same p, ap (one p) (taken n g h a l H));
         };
       }
+
+-- ---- the same of the list that a heap is
+
+module _ (ests : List Float) (nodes : List ℕ) (n : ℕ) (e : Entry) (ests′ : List Float) (nodes′ : List ℕ) (h : Lent ests nodes n) (o : Ordered (entryAt ests nodes) n) where
+  pub push-list : Pushed ests nodes n e ests′ nodes′ → ((i : ℕ) → T (fits binary64 (getD ests′ i nan)))
+      → (listed (entryAt ests′ nodes′) (n + 1) ≡ insert e (listed (entryAt ests nodes) n)) × Ordered (entryAt ests′ nodes′) (n + 1)
+  push-list p g =
+      let H = p .holds _ (holds-some ests nodes n h o) in
+      (holds-one ests′ nodes′ g (n + 1) _ _ (holds-some ests′ nodes′ (n + 1) (H .lent) (H .ordered)) H, H .ordered)
+
+  pub pop-list : 0 < n → Popped ests nodes n e ests′ nodes′ → ((i : ℕ) → T (fits binary64 (getD ests′ i nan)))
+      → (listed (entryAt ests nodes) n ≡ e ∷ listed (entryAt ests′ nodes′) (n - 1)) × Ordered (entryAt ests′ nodes′) (n - 1)
+  pop-list z p g =
+      let S = holds-some ests nodes n h o in
+      holds-first (listed (entryAt ests nodes) n) ests nodes n S z
+      (λ a r d. let K = subst (λ (l : List Entry). Holds l ests nodes n) d S in
+      let H = p .holds a r K in
+      let R = holds-one ests′ nodes′ g (n - 1) r _ H (holds-some ests′ nodes′ (n - 1) (H .lent) (H .ordered)) in
+      (d ∙ ap (λ (x : Entry). x ∷ r) (sym (p .taken a r K)) ∙ ap (λ (l : List Entry). e ∷ l) R, H .ordered))

@@ -4,3 +4,13 @@ pub mod OpenLaws
 pub mod SiftLaws
 pub mod HoldLaws
 pub mod StraightLaws
+pub mod LatticeLaws
+pub mod FrameLaws
+pub mod SearchLaws
+pub mod VisitLaws
+pub mod SeekLaws
+pub mod LayLaws
+pub mod ShortenLaws
+pub mod LinkLaws
+pub mod WayLaws
+pub mod BackLaws

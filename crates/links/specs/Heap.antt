@@ -62,6 +62,11 @@ pub record Lent (ests : List Float) (nodes : List ℕ) (n : ℕ) : Type 0 where
   pub in-ests : n ≤ length ests
   pub in-nodes : n ≤ length nodes
 
+-- the list of the first n entries, inserted one by one
+unfoldable pub listed : (ℕ → Entry) → ℕ → List Entry
+listed f zero = []
+listed f (suc n) = insert (f n) (listed f n)
+
 -- The first n places hold the entries of l, in another order: whatever is counted, there are as many. What lies beyond them is free.
 pub record Holds (l : List Entry) (ests : List Float) (nodes : List ℕ) (n : ℕ) : Type 0 where
   pub sorted : Sorted l

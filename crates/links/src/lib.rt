@@ -1,5 +1,9 @@
 // Links through cleared space (`link_path` of the Rust).
 pub mod heap;
+pub mod lattice;
+pub mod link;
+pub mod path;
+pub mod search;
 pub mod straight;
 
 // The number of a node of the search's lattice.

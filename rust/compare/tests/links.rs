@@ -1,9 +1,13 @@
-//! The proved heap against the standard one with the oracle's order of nodes: each pop, bit for bit.
+//! The proved heap against the standard one with the oracle's order of nodes: each pop, bit for bit; and
+//! ways against the oracle's.
 use std::collections::BinaryHeap;
 
-use compare::links::Heap;
+use compare::bits::Bits;
+use compare::links::{Heap, Ways};
+use compare::planners::{each, point};
 use oracle::generate::Rng;
-use oracle::planner::Node;
+use oracle::planner::{Node, Planner};
+use oracle::vec2::Vec2;
 
 /// The link search keeps its nodes by the estimate's negative, since the standard heap pops the greatest.
 fn same_pop(heap: &mut Heap, want: &mut BinaryHeap<Node>) {
@@ -79,4 +83,35 @@ fn equal_estimates_rise_and_fall() {
         }
         assert_eq!(heap.pop(), None);
     }
+}
+
+/// A point where the tool may be and touches nothing, if one is met.
+fn clear(r: &mut Rng, p: &Planner) -> Option<Vec2> {
+    (0..200).map(|_| point(r, p)).find(|&q| p.allowed_at(q) && p.free(q))
+}
+
+#[test]
+fn ways() {
+    let (mut found, mut searched, mut long, mut calls) = (0, 0, 0, 0);
+    each(|r, p, lent| {
+        let map: Vec<u8> = p.m.data.iter().map(|&b| b as u8).collect();
+        let mut ways = Ways::new(p);
+        for _ in 0..40 {
+            let (Some(a), Some(b)) = (clear(r, p), clear(r, p)) else { break };
+            // Now and then an end where the tool may not be, or off the raster.
+            let b = if r.chance(0.1) { point(r, p) } else { b };
+            let before = p.work;
+            let want = p.link_path(a, b);
+            let got = ways.link_path(p, lent, &map, a, b);
+            let bits = |q: &Vec2| [q.x.bits(), q.y.bits()];
+            let listed = |w: &Option<Vec<Vec2>>| w.as_ref().map(|w| w.iter().map(bits).collect::<Vec<_>>());
+            assert_eq!(listed(&got.points), listed(&want), "{a:?} {b:?}");
+            assert_eq!(got.work, p.work - before);
+            found += want.is_some() as usize;
+            searched += (got.work > 0) as usize;
+            long += want.is_some_and(|w| w.len() > 1) as usize;
+            calls += 1;
+        }
+    });
+    assert!(calls > 1_000 && searched > 300 && found > 300 && long > 50, "{calls} {searched} {found} {long}");
 }

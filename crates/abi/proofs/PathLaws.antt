@@ -1,0 +1,40 @@
+-- A way's parts are read back, and what `link_path` requires holds of a Setup made of its numbers. Assumes nothing.
+use mathlib.Core.Path.{_≡_, refl, sym, ap, _∙_, subst}
+use mathlib.Core.List.{List, [], _∷_}
+use Prim.Native.Nat.{ℕ, _≤_}
+use native.Mathlib.Omega.{arith}
+use lib.ListN.{length, set}
+use lib.Ieee.{Float}
+use Rattle.numbers.specs.Bound.{Bounds}
+use Rattle.geom.specs.declared.vec2.Vec2.{Vec2}
+use Rattle.geom.specs.declared.region.Region.{Region}
+use Rattle.raster.specs.declared.grid.Grid.{Grid}
+use Rattle.setup.specs.declared.Setup.{Setup}
+use Rattle.links.specs.Path.{wallIn, Fitted}
+use Rattle.links.specs.Link.{linkPath, linkedIn}
+use Rattle.links.specs.declared.link.Route.{Route}
+use Rattle.abi.specs.Setup.{placed, plain}
+use Rattle.abi.specs.Links.{routeIn, PathBy}
+
+route-back : (p : Route) (out : List ℕ) → 2 ≤ length out → routeIn (p .found) (set (set out 0 (p .points)) 1 (p .work)) ≡ p
+route-back p [] h = absurd (let z : ⊥ = omega arith in z)
+route-back p (x ∷ []) h = absurd (let z : ⊥ = omega arith in z)
+route-back p (x ∷ y ∷ out) h = refl
+
+module _ (s : Setup) (g : Grid) (region : Region) (r keep : Float) (samples : ℕ) (e : s ≡ placed g region r keep samples (s .bound)) (b : Bounds keep (s .bound)) where
+  pub fitted-of : (vs : List Float) (lens m : List ℕ) (w : List Float) → Fitted (plain g region r keep samples) vs lens m w → Fitted s vs lens m w
+  fitted-of vs lens m w f = subst (λ (z : Setup). Fitted z vs lens m w) (sym e) record {
+    walls = record { over = f .walls .over; held = f .walls .held; bound = b };
+    over = f .over;
+    rim = f .rim;
+    long = f .long;
+  }
+
+  pub path-by : (vs : List Float) (lens m allowed : List ℕ) (w : List Float) (a d : Vec2) (p : Route) (out : List ℕ) (w′ : List Float) → 2 ≤ length out
+      → linkedIn s p w′ ≡ linkPath s (wallIn s w) vs lens m allowed a d → PathBy g region r keep samples vs lens m allowed w a d (routeIn (p .found) (set (set out 0 (p .points)) 1 (p .work))) w′
+  path-by vs lens m allowed w a d p out w′ l h = record {
+    bound = s .bound;
+    bounds = b;
+    is = ap (λ (q : Route). linkedIn (placed g region r keep samples (s .bound)) q w′) (route-back p out l)
+      ∙ subst (λ (z : Setup). linkedIn z p w′ ≡ linkPath z (wallIn z w) vs lens m allowed a d) e h;
+  }

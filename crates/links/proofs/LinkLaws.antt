@@ -1,0 +1,333 @@
+-- The whole link: each part of the workspace is lent and comes back, and what they hold makes the way. Assumes nothing.
+use mathlib.Core.Path.{_≡_, refl, sym, ap, _∙_, subst}
+use mathlib.Core.Bool.{Bool, true, false, cond}
+use mathlib.Core.List.{List, [], _∷_, _++_}
+use Prim.Native.Nat.{ℕ, _+_, _-_, _*_, _≤_, _<_}
+use native.Mathlib.Omega.{arith}
+use native.Mathlib.Nat.{mul-le-mul-right, mul-pos}
+use lib.Dec.{eqb, ltb}
+use lib.ListN.{length, take, drop, replicate, length-append, length-replicate, length-drop}
+use lib.Seq.{take-take}
+use lib.Ieee.{Float}
+use borrow.Rule.Slice.PartMut.{putMid}
+use Rattle.loops.specs.Regions.{Fits, within}
+use Rattle.loops.specs.Loop.{loop, Run, on, out, turn}
+use Rattle.loops.proofs.Cases.{by-test}
+use Rattle.loops.proofs.LoopLaws.{loop-keeps}
+use Rattle.loops.proofs.RegionLaws.{region-long}
+use Rattle.geom.specs.Points.{putPoint, points}
+use Rattle.geom.specs.declared.vec2.Vec2.{Vec2}
+use Rattle.distance.specs.Least as least
+use Rattle.distance.specs.Nearest.{squaresOf, transformOf}
+use Rattle.distance.proofs.NearestLaws.{listed-long, squares-are}
+use Rattle.raster.specs.Grid.{Over, cellOf}
+use Rattle.raster.specs.Contact.{samplesOf, Rim}
+use Rattle.raster.specs.declared.grid.Grid.{Grid}
+use Rattle.raster.specs.declared.grid.Found.{Found}
+use Rattle.raster.specs.declared.grid.Found.the-variants.{Nothing, At}
+use Rattle.setup.specs.Place.{Walls}
+use Rattle.setup.specs.declared.Setup.{Setup}
+use Rattle.links.specs.declared.heap.Entry.{Entry}
+use Rattle.links.specs.declared.lattice.Lattice.{Lattice}
+use Rattle.links.specs.declared.search.Sought.{Sought}
+use Rattle.links.specs.declared.path.Kept.{Kept}
+use Rattle.links.specs.declared.path.Kept.the-variants.{Lost, Points}
+use Rattle.links.specs.declared.link.Route.{Route}
+use Rattle.links.specs.Frame.{Only}
+use Rattle.links.specs.Lattice.{latticeOf, nodes, Laid}
+use Rattle.links.specs.Search.{Search, Outcome, seekNext, seekStep, ended, started, seekOf, cells, squaresIn, Befores, outcomeIn}
+use Rattle.links.specs.Straight.{linkClear}
+use Rattle.links.specs.Path.{Way, lost, way, nodesOf, shortenOf, wallIn, pathIn, clearIn, Fitted, keptIn}
+use Rattle.links.specs.Link.{Linked, linked, aroundOf, betweenOf, linkPath, linkedIn, beforeIn, noRoute}
+use Rattle.links.proofs.LatticeLaws.{nodes-few, nodes-most}
+use Rattle.links.proofs.FrameLaws.{back-there, back-only, only-same, only-more, only-before, only-after, only-wider}
+use Rattle.links.proofs.SeekLaws.{sound-seek}
+use Rattle.links.proofs.LayLaws.{points-front}
+use Rattle.links.proofs.ShortenLaws.{fitted-only, path-long}
+
+-- ---- the squares, then the search
+
+module _ (l : Lattice) (L : Laid l) (m : List ℕ) (M : cells l ≤ length m) (u : List ℕ) (A : 15 * cells l ≤ length u) where
+  sides : least.Sides (l .grid .nx) (l .grid .ny)
+  sides = let s = L .sides in record { column = s .wide; wide = s .columns; row = s .high; high = s .rows }
+
+  part : Fits 0 (5 * cells l) u
+  part = record { start = omega arith; end = omega arith }
+
+  room : 4 * cells l ≤ length (take (5 * cells l - 0) (drop 0 u))
+  room = omega (arith, region-long 0 (5 * cells l) u part)
+
+  narrow : cells l + 3 * l .grid .nx ≤ 4 * cells l
+  narrow = let z : 1 * l .grid .nx ≤ cells l = mul-le-mul-right (l .grid .nx) (L .sides .high) in omega arith
+
+  pub transform-asks : least.Sides (l .grid .nx) (l .grid .ny) × ((cells l ≤ length m) × (cells l + 3 * l .grid .nx ≤ length (take (5 * cells l - 0) (drop 0 u))))
+  transform-asks = (sides, (M, omega (arith, room, narrow)))
+
+  module _ (t : List ℕ) (T : least.Transformed 1 m (l .grid .nx) (l .grid .ny) (take (5 * cells l - 0) (drop 0 u)) t) (K : length t ≡ length (take (5 * cells l - 0) (drop 0 u))) where
+    abbrev u₁ : List ℕ
+    u₁ = putMid 0 (5 * cells l - 0) u t
+
+    first : Only 0 (15 * cells l) u u₁
+    first = only-wider 0 (5 * cells l) u u₁ part (back-only 0 (5 * cells l) u part t K) 0 (15 * cells l) (omega arith) (omega arith) A
+
+    pub transformed-squares : squaresIn l u₁ ≡ squaresOf 1 m (l .grid .nx) (l .grid .ny)
+    unfolding within
+    transformed-squares =
+        ap (λ (k : ℕ). take k u₁) (let z : cells l - 0 ≡ cells l = omega arith in z)
+        ∙ sym (take-take (cells l) (5 * cells l - 0) u₁ (omega arith))
+        ∙ ap (take (cells l)) (back-there 0 (5 * cells l) u part t K)
+        ∙ squares-are 1 m (l .grid .nx) (l .grid .ny) _ t sides (omega (arith, K, room)) T
+
+    pub transformed-long : 15 * cells l ≤ length u₁
+    transformed-long = omega (arith, first .long)
+
+    pub search-is : (allowed : List ℕ) (o : Sought) (u₂ : List ℕ) (y z : ℕ) → outcomeIn l o u₂ ≡ seekOf l allowed (squaresIn l u₁) → Only (5 * cells l) (15 * cells l) u₁ u₂ → y ≡ z
+        → (outcomeIn l o u₂ ≡ seekOf l allowed (squaresOf 1 m (l .grid .nx) (l .grid .ny))) × (Only 0 (15 * cells l) u u₂ × (y ≡ z))
+    search-is allowed o u₂ y z X Y Z =
+        let h : Fits (5 * cells l) (15 * cells l) u₁ = record { start = omega arith; end = transformed-long } in
+        let all : Only 0 (15 * cells l) u₁ u₂ = only-wider (5 * cells l) (15 * cells l) u₁ u₂ h Y 0 (15 * cells l) (omega arith) (omega arith) transformed-long in
+        (X ∙ ap (seekOf l allowed) transformed-squares, (only-more 0 (15 * cells l) u (record { start = omega arith; end = A }) u₁ first u₂ all, Z))
+
+squares-long : (m : List ℕ) (nx ny : ℕ) → length (squaresOf 1 m nx ny) ≡ ny * nx
+unfolding squaresOf
+squares-long m nx ny = listed-long _ 0 (ny * nx)
+
+pub transform-long : (m : List ℕ) (nx ny : ℕ) (s t : List ℕ) → ny * nx + 3 * nx ≤ length s → t ≡ transformOf 1 m nx ny s → length t ≡ length s
+unfolding transformOf
+transform-long m nx ny s t h e =
+    ap length e ∙ length-append (squaresOf 1 m nx ny) (replicate (3 * nx) 0 ++ drop (ny * nx + 3 * nx) s)
+    ∙ (let a = length-append {A = ℕ} (replicate (3 * nx) 0) (drop (ny * nx + 3 * nx) s) in
+    let b = length-replicate {A = ℕ} (3 * nx) 0 in
+    let c = length-drop (ny * nx + 3 * nx) s in
+    let d = squares-long m nx ny in
+    omega (arith, a, b, c, d))
+
+-- ---- the path back, then its shortening
+
+module _ (s : Setup) (vs : List Float) (lens m : List ℕ) (w : List Float) (F : Fitted s vs lens m w) (l : Lattice) (L : Laid l) (G : l .grid ≡ s .grid) (u : List ℕ) (A : 15 * cells l ≤ length u) where
+  abbrev size : ℕ
+  size = s .grid .ny * s .grid .nx
+
+  pub same-cells : cells l ≡ size
+  same-cells = ap (λ (g : Grid). g .ny * g .nx) G
+
+  pub nodes-in : nodes l ≤ size
+  nodes-in = omega (arith, nodes-few l L, same-cells)
+
+  path : Fits (20 * size) (23 * size) w
+  path = record { start = omega arith; end = omega (arith, F .long) }
+
+  module _ (n : ℕ) (N : n ≡ nodes l) where
+    -- the nodes before, as they are lent
+    pub before-part : take (5 * cells l + n - 5 * cells l) (drop (5 * cells l) u) ≡ beforeIn l u
+    unfolding within
+    before-part =
+        let f = nodes-few l L in
+        ap (λ (k : ℕ). take k (drop (5 * cells l) u)) (let z : 5 * cells l + n - 5 * cells l ≡ nodes l = omega arith in z)
+        ∙ sym (take-take (nodes l) (15 * cells l - 5 * cells l) (drop (5 * cells l) u) (let z : nodes l ≤ 15 * cells l - 5 * cells l = omega arith in z))
+
+    before-long : length (take (5 * cells l + n - 5 * cells l) (drop (5 * cells l) u)) ≡ nodes l
+    before-long =
+        let z = region-long (5 * cells l) (5 * cells l + n) u (record { start = omega arith; end = omega (arith, nodes-few l L) }) in omega (arith, z)
+
+    pub lay-asks : Befores (nodes l) (beforeIn l u)
+        → Laid l × ((length (take (5 * cells l + n - 5 * cells l) (drop (5 * cells l) u)) ≡ nodes l) × (Befores (nodes l) (take (5 * cells l + n - 5 * cells l) (drop (5 * cells l) u)) × (2 * nodes l ≤ length (take (23 * size - 20 * size) (drop (20 * size) w)))))
+    lay-asks B = (L, (before-long, (subst (Befores (nodes l)) (sym before-part) B, omega (arith, region-long (20 * size) (23 * size) w path, nodes-in))))
+
+    -- the path's part comes back as r, its points from k on
+    module _ (r : List Float) (k : ℕ) (low : k < nodes l) (R : length r ≡ length (take (23 * size - 20 * size) (drop (20 * size) w))) where
+      abbrev w₁ : List Float
+      w₁ = putMid (20 * size) (23 * size - 20 * size) w r
+
+      laid-only : Only (20 * size) (23 * size) w w₁
+      laid-only = back-only (20 * size) (23 * size) w path r R
+
+      pub shorten-asks : Fitted s vs lens m w₁ × ((k ≤ n) × (2 * n ≤ 3 * size))
+      shorten-asks = (fitted-only s vs lens m w F w₁ laid-only, (omega arith, omega (arith, nodes-in)))
+
+      pub trace-is : (to from : Vec2) → points k (nodes l - k) r ≡ nodesOf l (take (5 * cells l + n - 5 * cells l) (drop (5 * cells l) u)) to → (q : Kept) (w₂ : List Float)
+          → keptIn s q w₂ ≡ shortenOf (clearIn s vs lens m w₁) (points k (n - k) (pathIn s w₁)) from → Only (20 * size) (23 * size) w₁ w₂
+          → (keptIn s q w₂ ≡ shortenOf (clearIn s vs lens m w) (nodesOf l (beforeIn l u) to) from) × Only (20 * size) (23 * size) w w₂
+      unfolding within
+      trace-is to from P q w₂ X Y = (
+        X ∙ ap (λ (wall : List Float). shortenOf (linkClear s wall vs lens m) (points k (n - k) (pathIn s w₁)) from) (only-before (20 * size) (23 * size) w path w₁ laid-only 0 size (omega arith) (omega arith))
+            ∙ ap (λ (ps : List Vec2). shortenOf (clearIn s vs lens m w) ps from)
+            (ap (λ (c : ℕ). points k (c - k) (pathIn s w₁)) N ∙ ap (points k (nodes l - k)) (there tt) ∙ P ∙ ap (λ (b : List ℕ). nodesOf l b to) before-part),
+        only-more (20 * size) (23 * size) w path w₁ laid-only w₂ Y,
+      )
+        where
+          there : Unit {0} → pathIn s w₁ ≡ r
+          there _ = back-there (20 * size) (23 * size) w path r R
+
+-- ---- what the search's part of w leaves of the others
+
+module _ (s : Setup) (vs : List Float) (lens m : List ℕ) (w : List Float) (F : Fitted s vs lens m w) (w₁ : List Float) (O : Only (10 * (s .grid .ny * s .grid .nx)) (20 * (s .grid .ny * s .grid .nx)) w w₁) where
+  costs : Fits (10 * (s .grid .ny * s .grid .nx)) (20 * (s .grid .ny * s .grid .nx)) w
+  costs = record { start = omega arith; end = omega (arith, F .long) }
+
+  pub wall-kept : wallIn s w₁ ≡ wallIn s w
+  wall-kept = only-before (10 * (s .grid .ny * s .grid .nx)) (20 * (s .grid .ny * s .grid .nx)) w costs w₁ O 0 (s .grid .ny * s .grid .nx) (omega arith) (omega arith)
+
+  pub fitted-kept : Fitted s vs lens m w₁
+  fitted-kept = record {
+    walls = subst (λ (q : List Float). Walls s q vs lens) (sym wall-kept) (F .walls);
+    over = F .over;
+    rim = subst (Rim (samplesOf (s .samples))) (sym (only-after (10 * (s .grid .ny * s .grid .nx)) (20 * (s .grid .ny * s .grid .nx)) w costs w₁ O (32 * (s .grid .ny * s .grid .nx)) (32 * (s .grid .ny * s .grid .nx) + 4096) (omega arith))) (F .rim);
+    long = omega (arith, F .long, O .long);
+  }
+
+-- ---- the search's work
+
+module _ (l : Lattice) (allowed squares : List ℕ) where
+  Few : Run Search Outcome → Type 0
+  Few (on s) = Unit {0}
+  Few (out o) = o .sought .expanded ≤ nodes l + 1
+
+  few-next : (i : ℕ) (s : Search) (q : List Entry) → i ≤ nodes l → Few (seekNext l allowed squares i s q)
+  unfolding seekNext Few
+  few-next i s [] h = omega arith
+  few-next i s (e ∷ r) h = by-test Few (eqb (e .node .0) (l .goal .0)) _ _ (λ _. omega arith) (λ _. by-test Few (ltb (nodes l) (i + 1)) _ _ (λ _. omega arith) (λ _. tt))
+
+  few-turn : (i : ℕ) (r : Run Search Outcome) → i < nodes l + 1 → Few r → Few (turn (seekStep l allowed squares) i r)
+  unfolding turn seekStep Few
+  few-turn i (on s) h f = few-next i s (s .queue) (omega arith)
+  few-turn i (out o) h f = f
+
+  pub seek-few : seekOf l allowed squares .sought .expanded ≤ nodes l + 1
+  unfolding seekOf ended Few
+  seek-few = go (loop (turn (seekStep l allowed squares)) 0 (nodes l + 1) (on (started l))) (loop-keeps (turn (seekStep l allowed squares)) 0 Few (nodes l + 1) (λ i r a b f. few-turn i r b f) (on (started l)) tt)
+    where
+      go : (r : Run Search Outcome) → Few r → ended r .sought .expanded ≤ nodes l + 1
+      go (on s) f = omega arith
+      go (out o) f = f
+
+-- ---- over the lattice
+
+module _ (s : Setup) (vs : List Float) (lens m allowed : List ℕ) (w : List Float) (F : Fitted s vs lens m w) (l : Lattice) (L : Laid l) (G : l .grid ≡ s .grid)
+    (H : Over (s .grid) (length allowed)) (u : List ℕ) (A : 15 * (s .grid .ny * s .grid .nx) ≤ length u) where
+  abbrev n : ℕ
+  n = s .grid .ny * s .grid .nx
+
+  same : cells l ≡ n
+  same = ap (λ (g : Grid). g .ny * g .nx) G
+
+  lent : Fits (10 * n) (20 * n) w
+  lent = record { start = omega arith; end = omega (arith, F .long) }
+
+  pub around-asks : Laid l × (Over (l .grid) (length m) × (Over (l .grid) (length allowed) × ((15 * cells l ≤ length u) × (10 * cells l ≤ length (take (20 * n - 10 * n) (drop (10 * n) w))))))
+  around-asks =
+      (L, (subst (λ (g : Grid). Over g (length m)) (sym G) (F .over), (subst (λ (g : Grid). Over g (length allowed)) (sym G) H, (omega (arith, same), omega (arith, same, region-long (10 * n) (20 * n) w lent)))))
+
+  -- the search's answer, and what it leaves
+  module _ (o : Sought) (u₁ : List ℕ) (c′ : List Float) (X : outcomeIn l o u₁ ≡ seekOf l allowed (squaresOf 1 m (l .grid .nx) (l .grid .ny)))
+      (Y : Only 0 (15 * cells l) u u₁) (Z : length c′ ≡ length (take (20 * n - 10 * n) (drop (10 * n) w))) where
+    abbrev wₛ : List Float
+    wₛ = putMid (10 * n) (20 * n - 10 * n) w c′
+
+    costs-only : Only (10 * n) (20 * n) w wₛ
+    costs-only = back-only (10 * n) (20 * n) w lent c′ Z
+
+    wide : Only (10 * n) (23 * n) w wₛ
+    wide = only-wider (10 * n) (20 * n) w wₛ lent costs-only (10 * n) (23 * n) (omega arith) (omega arith) (omega (arith, F .long))
+
+    words-only : Only 0 (15 * n) u u₁
+    words-only = subst (λ (k : ℕ). Only 0 (15 * k) u u₁) same Y
+
+    pub work-few : o .expanded ≤ 1048577
+    work-few = omega (arith, ap (λ (q : Outcome). q .sought .expanded) X, seek-few l allowed (squaresOf 1 m (l .grid .nx) (l .grid .ny)), nodes-most l L)
+
+    pub trace-asks : Fitted s vs lens m wₛ × (Laid l × ((l .grid ≡ s .grid) × ((15 * cells l ≤ length u₁) × Befores (nodes l) (beforeIn l u₁))))
+    trace-asks =
+        (fitted-kept s vs lens m w F wₛ costs-only, (L, (G, (omega (arith, same, Y .long), subst (Befores (nodes l)) (ap (λ (q : Outcome). q .before) (sym X)) (sound-seek l L allowed (squaresOf 1 m (l .grid .nx) (l .grid .ny)))))))
+
+    module _ (from to : Vec2) where
+      by : linked (cond (o .found) (shortenOf (linkClear s (wallIn s w) vs lens m) (nodesOf l (beforeIn l u₁) to) from) lost) (o .expanded * 8)
+          ≡ aroundOf s (wallIn s w) vs lens m allowed from to l
+      unfolding aroundOf
+      by = ap (λ (q : Outcome). linked (cond (q .sought .found) (shortenOf (linkClear s (wallIn s w) vs lens m) (nodesOf l (q .before) to) from) lost) (q .sought .expanded * 8)) X
+
+      pub around-not : o .found ≡ false
+          → (linkedIn s (record { found = false; points = 0; work = o .expanded * 8 }) wₛ ≡ aroundOf s (wallIn s w) vs lens m allowed from to l) × (Only 0 (15 * n) u u₁ × Only (10 * n) (23 * n) w wₛ)
+      around-not e = (sym (ap (λ (t : Bool). linked (cond t (shortenOf (linkClear s (wallIn s w) vs lens m) (nodesOf l (beforeIn l u₁) to) from) lost) (o .expanded * 8)) e) ∙ by, (words-only, wide))
+
+      module _ (e : o .found ≡ true) (k : Kept) (w₂ : List Float) (K : keptIn s k w₂ ≡ shortenOf (clearIn s vs lens m wₛ) (nodesOf l (beforeIn l u₁) to) from) (O : Only (20 * n) (23 * n) wₛ w₂) where
+        found : linked (keptIn s k w₂) (o .expanded * 8) ≡ aroundOf s (wallIn s w) vs lens m allowed from to l
+        found =
+            ap (λ (p : Way). linked p (o .expanded * 8)) (K ∙ ap (λ (wall : List Float). shortenOf (linkClear s wall vs lens m) (nodesOf l (beforeIn l u₁) to) from) (wall-kept s vs lens m w F wₛ costs-only))
+            ∙ sym (ap (λ (t : Bool). linked (cond t (shortenOf (linkClear s (wallIn s w) vs lens m) (nodesOf l (beforeIn l u₁) to) from) lost) (o .expanded * 8)) e)
+            ∙ by
+
+        rest : Only (10 * n) (23 * n) w w₂
+        rest =
+            let f : Fits (20 * n) (23 * n) wₛ = record { start = omega arith; end = omega (arith, F .long, wide .long) } in
+            only-more (10 * n) (23 * n) w (record { start = omega arith; end = omega (arith, F .long) }) wₛ wide w₂ (only-wider (20 * n) (23 * n) wₛ w₂ f O (10 * n) (23 * n) (omega arith) (omega arith) (omega (arith, F .long, wide .long)))
+
+        pub around-lost : k ≡ Lost
+            → (linkedIn s (record { found = false; points = 0; work = o .expanded * 8 }) w₂ ≡ aroundOf s (wallIn s w) vs lens m allowed from to l) × (Only 0 (15 * n) u u₁ × Only (10 * n) (23 * n) w w₂)
+        around-lost d = (sym (ap (λ (q : Kept). linked (keptIn s q w₂) (o .expanded * 8)) d) ∙ found, (words-only, rest))
+
+        pub around-found : (c : ℕ) → k ≡ Points c
+            → (linkedIn s (record { found = true; points = c; work = o .expanded * 8 }) w₂ ≡ aroundOf s (wallIn s w) vs lens m allowed from to l) × (Only 0 (15 * n) u u₁ × Only (10 * n) (23 * n) w w₂)
+        around-found c d = (sym (ap (λ (q : Kept). linked (keptIn s q w₂) (o .expanded * 8)) d) ∙ found, (words-only, rest))
+
+-- ---- the link
+
+one-point : (p : Vec2) (w : List Float) → 1 < length w → points 0 1 (putPoint 0 p w) ≡ p ∷ []
+unfolding points
+one-point p w h = points-front 0 0 p w h
+
+module _ (s : Setup) (vs : List Float) (lens m allowed : List ℕ) (w : List Float) (F : Fitted s vs lens m w) (u : List ℕ) (A : 15 * (s .grid .ny * s .grid .nx) ≤ length u) (from to : Vec2) where
+  abbrev cellsOf : ℕ
+  cellsOf = s .grid .ny * s .grid .nx
+
+  none-u : Only 0 (15 * cellsOf) u u
+  none-u = only-same 0 (15 * cellsOf) u (record { start = omega arith; end = A })
+
+  none-w : Only (10 * cellsOf) (23 * cellsOf) w w
+  none-w = only-same (10 * cellsOf) (23 * cellsOf) w (record { start = omega arith; end = omega (arith, F .long) })
+
+  pub some-cell : 0 < cellsOf
+  some-cell = mul-pos (F .over .sides .high) (F .over .sides .wide)
+
+  module _ (t : Bool) (T : t ≡ clearIn s vs lens m w from to) where
+    pub link-straight : t ≡ true → (w′ : List Float) → pathIn s w′ ≡ putPoint 0 to (pathIn s w) → Only (20 * cellsOf) (23 * cellsOf) w w′
+        → (linkedIn s (record { found = true; points = 1; work = 0 }) w′ ≡ linkPath s (wallIn s w) vs lens m allowed from to) × (Only 0 (15 * cellsOf) u u × Only (10 * cellsOf) (23 * cellsOf) w w′)
+    unfolding linkPath
+    link-straight e w′ P O =
+        let f : Fits (20 * cellsOf) (23 * cellsOf) w = record { start = omega arith; end = omega (arith, F .long) } in
+        let p : points 0 1 (pathIn s w′) ≡ to ∷ [] = ap (points 0 1) P ∙ one-point to (pathIn s w) (omega (arith, path-long s w (omega (arith, F .long)), some-cell)) in (
+          rw (← T, e) (ap (λ (q : List Vec2). linked (way q) 0) p),
+          (none-u, only-wider (20 * cellsOf) (23 * cellsOf) w w′ f O (10 * cellsOf) (23 * cellsOf) (omega arith) (omega arith) (omega (arith, F .long))),
+        )
+
+    module _ (e : t ≡ false) where
+      by-cells : (x z : Found) → x ≡ cellOf (s .grid) from → z ≡ cellOf (s .grid) to → betweenOf s (wallIn s w) vs lens m allowed from to x z ≡ linkPath s (wallIn s w) vs lens m allowed from to
+      unfolding linkPath
+      by-cells x z X Z = rw (← T, e) (rw (X, Z))
+
+      pub link-no-from : (x : Found) → x ≡ cellOf (s .grid) from → x ≡ Nothing → (r : Route) → r ≡ noRoute
+          → (linkedIn s r w ≡ linkPath s (wallIn s w) vs lens m allowed from to) × (Only 0 (15 * cellsOf) u u × Only (10 * cellsOf) (23 * cellsOf) w w)
+      unfolding betweenOf
+      link-no-from x X d r R =
+          (ap (λ (q : Route). linkedIn s q w) R ∙ sym (ap (λ (y : Found). betweenOf s (wallIn s w) vs lens m allowed from to y (cellOf (s .grid) to)) d) ∙ by-cells x (cellOf (s .grid) to) X refl, (none-u, none-w))
+
+      module _ (x : Found) (X : x ≡ cellOf (s .grid) from) (i j : ℕ) (I : x ≡ At i j) (z : Found) (Z : z ≡ cellOf (s .grid) to) where
+        pub link-no-to : z ≡ Nothing → (r : Route) → r ≡ noRoute
+            → (linkedIn s r w ≡ linkPath s (wallIn s w) vs lens m allowed from to) × (Only 0 (15 * cellsOf) u u × Only (10 * cellsOf) (23 * cellsOf) w w)
+        unfolding betweenOf
+        link-no-to d r R = (
+          ap (λ (q : Route). linkedIn s q w) R ∙ sym (ap (λ (y : Found). betweenOf s (wallIn s w) vs lens m allowed from to y z) I ∙ ap (betweenOf s (wallIn s w) vs lens m allowed from to (At i j)) d) ∙ by-cells x z X Z,
+          (none-u, none-w),
+        )
+
+        pub link-around : (p q : ℕ) → z ≡ At p q → (l : Lattice) → l ≡ latticeOf s i j p q → (r : Linked) → r ≡ aroundOf s (wallIn s w) vs lens m allowed from to l
+            → r ≡ linkPath s (wallIn s w) vs lens m allowed from to
+        unfolding betweenOf
+        link-around p q d l D r R =
+            R ∙ ap (aroundOf s (wallIn s w) vs lens m allowed from to) D
+            ∙ sym (ap (λ (y : Found). betweenOf s (wallIn s w) vs lens m allowed from to y z) I ∙ ap (betweenOf s (wallIn s w) vs lens m allowed from to (At i j)) d) ∙ by-cells x z X Z
+
+-- the lattice of two cells of the raster
+pub lattice-grid : (s : Setup) (i j p q : ℕ) (l : Lattice) → l ≡ latticeOf s i j p q → l .grid ≡ s .grid
+unfolding latticeOf
+lattice-grid s i j p q l e = ap (λ (x : Lattice). x .grid) e

@@ -1,0 +1,54 @@
+-- `links::link::search` meets its contract. Assumes nothing.
+use Rattle.links.proofs.LinkLaws.{transform-asks, transform-long, transformed-long, search-is}
+use borrow.Author.Needs.{needs}
+use Rattle.links.proofs.link.search.Statement.{statement}
+use Rattle.links.proofs.link.search.Tie as tie
+
+mul-end : tie.Need-mul-end
+mul-end c = search needs
+
+mul-end-2 : tie.Need-mul-end-2
+mul-end-2 c = search needs
+
+sub-transform : tie.Need-sub-transform
+sub-transform c = search needs
+
+part-transform-start : tie.Need-part-transform-start
+part-transform-start c = search needs
+
+part-transform-end : tie.Need-part-transform-end
+part-transform-end c = search needs
+
+transform-requires : tie.Need-transform-requires
+transform-requires c κs = let s = c .before .before .before .before .before .before in transform-asks _ (s .pre .0) (s .args .map .now) (s .pre .1 .0 .long) (s .args .u .now) (s .pre .1 .1 .1 .0)
+
+limit-of-requires : tie.Need-limit-of-requires
+limit-of-requires c κs = search needs
+
+seek-requires : tie.Need-seek-requires
+seek-requires c κs = let s = c .before .before .before .before .before .before .before .before .before .before .before .before in let K = transform-long _ _ _ _ _ (transform-asks _ (s .pre .0) (s .args .map .now) (s .pre .1 .0 .long) (s .args .u .now) (s .pre .1 .1 .1 .0) .1 .1) (c .before .before .before .before .before .transform .ensures .1) in (s .pre .0, (c .before .before .limit-of .ensures, (s .pre .1 .1 .0, (transformed-long _ (s .pre .0) (s .args .map .now) (s .pre .1 .0 .long) (s .args .u .now) (s .pre .1 .1 .1 .0) _ (c .before .before .before .before .before .transform .ensures .0) K, s .pre .1 .1 .1 .1))))
+
+same-length : tie.Need-same-length
+same-length c = search needs
+
+same-length-2 : tie.Need-same-length-2
+same-length-2 c = search needs
+
+returns : tie.Need-returns
+returns c = let s = c .before .before .before .before .before .before .before .before .before .before .before .before .before .before .before .before .before in let K = transform-long _ _ _ _ _ (transform-asks _ (s .pre .0) (s .args .map .now) (s .pre .1 .0 .long) (s .args .u .now) (s .pre .1 .1 .1 .0) .1 .1) (c .before .before .before .before .before .before .before .before .before .before .transform .ensures .1) in let r = c .before .before .before .before .seek .ensures in search-is _ (s .pre .0) (s .args .map .now) (s .pre .1 .0 .long) (s .args .u .now) (s .pre .1 .1 .1 .0) _ (c .before .before .before .before .before .before .before .before .before .before .transform .ensures .0) K _ _ _ _ _ (r .0) (r .1 .0) (r .1 .1)
+
+pub search-spec : {M : Type 1} → statement M
+search-spec =
+    tie.close
+    (tie.spec
+    mul-end
+    mul-end-2
+    sub-transform
+    part-transform-start
+    part-transform-end
+    transform-requires
+    limit-of-requires
+    seek-requires
+    same-length
+    same-length-2
+    returns)

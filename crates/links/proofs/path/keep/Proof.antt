@@ -1,0 +1,52 @@
+-- `links::path::keep` meets its contract. Assumes nothing.
+use Rattle.loops.specs.Regions.{within}
+use Rattle.links.proofs.ShortenLaws.{keep-is}
+use borrow.Author.Needs.{needs}
+use Rattle.links.proofs.path.keep.Statement.{statement}
+use Rattle.links.proofs.path.keep.Tie as tie
+
+mul-n : tie.Need-mul-n
+mul-n c = search needs
+
+mul-from : tie.Need-mul-from
+mul-from c = search needs
+
+mul-to : tie.Need-mul-to
+mul-to c = search needs
+
+mul-put : tie.Need-mul-put
+mul-put c = search needs
+
+sub-put : tie.Need-sub-put
+sub-put c = search needs
+
+part-put-start : tie.Need-part-put-start
+part-put-start c = search needs
+
+part-put-end : tie.Need-part-put-end
+part-put-end c = search needs
+
+put-requires : tie.Need-put-requires
+put-requires c κs = search needs
+
+same-length : tie.Need-same-length
+same-length c = search needs
+
+returns : tie.Need-returns
+unfolding within
+returns c = let s = c .before .before .before .before .before .before in keep-is (s .args .s) _ _ _ (s .pre .1 .0) _ (c .before .before .put .ensures)
+
+pub keep-spec : {M : Type 1} → statement M
+keep-spec =
+    tie.close
+    (tie.spec
+    mul-n
+    mul-from
+    mul-to
+    mul-put
+    sub-put
+    part-put-start
+    part-put-end
+    put-requires
+    same-length
+    returns)

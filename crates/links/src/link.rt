@@ -1,0 +1,173 @@
+// A way of straight feeds through cleared space: straight, or over the lattice.
+ghost use mathlib.Core.Path.{_≡_};
+ghost use Prim.Native.Nat.{_*_, _≤_};
+ghost use lib.ListN.{length};
+ghost use Rattle.distance.specs.Nearest.{squaresOf};
+ghost use Rattle.raster.specs.Grid.{Over};
+ghost use Rattle.links.specs.Frame.{Only};
+ghost use Rattle.links.specs.Lattice.{nodes, Laid};
+ghost use Rattle.links.specs.Search.{seekOf, cells, Befores, outcomeIn};
+ghost use Rattle.links.specs.Path.{nodesOf, shortenOf, wallIn, clearIn, Fitted, keptIn};
+ghost use Rattle.links.specs.Link.{aroundOf, linkPath, linkedIn, beforeIn, noRoute};
+use super::lattice::Lattice;
+use super::lattice::lattice_of;
+use super::lattice::limit_of;
+use super::lattice::nodes_of;
+use super::path::Kept;
+use super::search::Sought;
+use geom::vec2::Vec2;
+use raster::grid::Found;
+use setup::Setup;
+
+// How many points the way has, and the work of its search.
+pub struct Route {
+    pub found: bool,
+    pub points: usize,
+    pub work: usize,
+}
+
+// The squares of the distance to stock, then the search.
+fn search(l: Lattice, map: &[u8], allowed: &[u8], u: &mut [u32], costs: &mut [f64]) -> Sought
+    requires { ⌜ Laid l ⌝ }
+    requires { ⌜ Over (l .grid) (length (now map)) ⌝ }
+    requires { ⌜ Over (l .grid) (length (now allowed)) ⌝ }
+    requires { ⌜ 15 * cells l ≤ length (now u) ⌝ }
+    requires { ⌜ 10 * cells l ≤ length (now costs) ⌝ }
+    ensures { λ r. ⌜ outcomeIn l r (now (u .exit)) ≡ seekOf l (now (allowed .entry)) (squaresOf 1 (now (map .entry)) (l .grid .nx) (l .grid .ny)) ⌝ }
+    ensures { λ _. ⌜ Only 0 (15 * cells l) (now (u .entry)) (now (u .exit)) ⌝ }
+    ensures { λ _. ⌜ length (now (costs .exit)) ≡ length (now (costs .entry)) ⌝ }
+{
+    let end = 5 * (l.grid.ny * l.grid.nx);
+    distance::transform(map, 1, l.grid.nx, l.grid.ny, &mut u[0..end]);
+    let limit = limit_of(l);
+    super::search::seek(l, limit, allowed, u, costs)
+}
+
+// The path of a search that reached the goal, laid and shortened.
+fn trace(
+    s: Setup,
+    vs: &[f64],
+    lens: &[u32],
+    map: &[u8],
+    u: &[u32],
+    w: &mut [f64],
+    l: Lattice,
+    from: Vec2,
+    to: Vec2,
+) -> Kept
+    requires { ⌜ Fitted s (now vs) (now lens) (now map) (now w) ⌝ }
+    requires { ⌜ Laid l ⌝ }
+    requires { ⌜ l .grid ≡ s .grid ⌝ }
+    requires { ⌜ 15 * cells l ≤ length (now u) ⌝ }
+    requires { ⌜ Befores (nodes l) (beforeIn l (now u)) ⌝ }
+    ensures { λ r. ⌜ keptIn s r (now (w .exit)) ≡ shortenOf (clearIn s (now (vs .entry)) (now (lens .entry)) (now (map .entry)) (now (w .entry))) (nodesOf l (beforeIn l (now (u .entry))) to) from ⌝ }
+    ensures { λ _. ⌜ Only (20 * (s .grid .ny * s .grid .nx)) (23 * (s .grid .ny * s .grid .nx)) (now (w .entry)) (now (w .exit)) ⌝ }
+{
+    let n = nodes_of(l);
+    let first = 5 * (l.grid.ny * l.grid.nx);
+    let last = first + n;
+    let a = 20 * (s.grid.ny * s.grid.nx);
+    let e = 23 * (s.grid.ny * s.grid.nx);
+    let k = super::path::lay(l, &u[first..last], &mut w[a..e], to);
+    super::path::shorten(s, vs, lens, map, w, from, k, n)
+}
+
+// The way over the lattice.
+fn around(
+    s: Setup,
+    vs: &[f64],
+    lens: &[u32],
+    map: &[u8],
+    allowed: &[u8],
+    u: &mut [u32],
+    w: &mut [f64],
+    l: Lattice,
+    from: Vec2,
+    to: Vec2,
+) -> Route
+    requires { ⌜ Fitted s (now vs) (now lens) (now map) (now w) ⌝ }
+    requires { ⌜ Laid l ⌝ }
+    requires { ⌜ l .grid ≡ s .grid ⌝ }
+    requires { ⌜ Over (s .grid) (length (now allowed)) ⌝ }
+    requires { ⌜ 15 * (s .grid .ny * s .grid .nx) ≤ length (now u) ⌝ }
+    ensures { λ r. ⌜ linkedIn s r (now (w .exit)) ≡ aroundOf s (wallIn s (now (w .entry))) (now (vs .entry)) (now (lens .entry)) (now (map .entry)) (now (allowed .entry)) from to l ⌝ }
+    ensures { λ _. ⌜ Only 0 (15 * (s .grid .ny * s .grid .nx)) (now (u .entry)) (now (u .exit)) ⌝ }
+    ensures { λ _. ⌜ Only (10 * (s .grid .ny * s .grid .nx)) (23 * (s .grid .ny * s .grid .nx)) (now (w .entry)) (now (w .exit)) ⌝ }
+{
+    let a = 10 * (s.grid.ny * s.grid.nx);
+    let e = 20 * (s.grid.ny * s.grid.nx);
+    let o = search(l, map, allowed, u, &mut w[a..e]);
+    let work = o.expanded * 8;
+    if !o.found {
+        return Route {
+            found: false,
+            points: 0,
+            work,
+        };
+    }
+    let k = trace(s, vs, lens, map, u, w, l, from, to);
+    match k {
+        Kept::Lost => Route {
+            found: false,
+            points: 0,
+            work,
+        },
+        Kept::Points(points) => Route {
+            found: true,
+            points,
+            work,
+        },
+    }
+}
+
+// No way and no search.
+fn nowhere() -> Route
+    ensures { λ r. ⌜ r ≡ noRoute ⌝ }
+{
+    Route {
+        found: false,
+        points: 0,
+        work: 0,
+    }
+}
+
+// The path's points are laid in the workspace: u is the search's, of w its parts for the search and the
+// path are written.
+pub fn link_path(
+    s: Setup,
+    vs: &[f64],
+    lens: &[u32],
+    map: &[u8],
+    allowed: &[u8],
+    u: &mut [u32],
+    w: &mut [f64],
+    from: Vec2,
+    to: Vec2,
+) -> Route
+    requires { ⌜ Fitted s (now vs) (now lens) (now map) (now w) ⌝ }
+    requires { ⌜ Over (s .grid) (length (now allowed)) ⌝ }
+    requires { ⌜ 15 * (s .grid .ny * s .grid .nx) ≤ length (now u) ⌝ }
+    ensures { λ r. ⌜ linkedIn s r (now (w .exit)) ≡ linkPath s (wallIn s (now (w .entry))) (now (vs .entry)) (now (lens .entry)) (now (map .entry)) (now (allowed .entry)) from to ⌝ }
+    ensures { λ _. ⌜ Only 0 (15 * (s .grid .ny * s .grid .nx)) (now (u .entry)) (now (u .exit)) ⌝ }
+    ensures { λ _. ⌜ Only (10 * (s .grid .ny * s .grid .nx)) (23 * (s .grid .ny * s .grid .nx)) (now (w .entry)) (now (w .exit)) ⌝ }
+{
+    if super::path::clear(s, vs, lens, map, w, from, to) {
+        super::path::keep(s, w, 0, to);
+        return Route {
+            found: true,
+            points: 1,
+            work: 0,
+        };
+    }
+    let g = s.grid;
+    let x = raster::grid::cell_of(g, from);
+    let Found::At(i, j) = x else {
+        return nowhere();
+    };
+    let z = raster::grid::cell_of(g, to);
+    let Found::At(p, q) = z else {
+        return nowhere();
+    };
+    let l = lattice_of(s, i, j, p, q);
+    around(s, vs, lens, map, allowed, u, w, l, from, to)
+}
