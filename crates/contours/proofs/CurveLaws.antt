@@ -3,16 +3,18 @@ use mathlib.Core.Path.{_≡_, refl, sym, ap, _∙_, subst}
 use mathlib.Core.Bool.{Bool, true, false, _||_}
 use mathlib.Core.List.{List, [], _∷_, _++_}
 use mathlib.Core.Logic.{_⊎_, inl, inr}
-use Prim.Native.Nat.{ℕ, _+_, _-_, _≤_, _<_}
+use Prim.Native.Nat.{ℕ, _+_, _-_, _*_, _%_, _≤_, _<_}
 use native.Mathlib.Omega.{arith}
+use native.Mathlib.Nat.{mul-add-mod-self-right, mod-eq-of-lt}
 use lib.ListN.{length, length-set, List·getD-append}
 use lib.Seq.{getD-set-other}
 use lib.Dec.{eqb, ltb}
 use lib.Ieee.{Float, nan}
-use borrow.Author.Tests.{ltb-true, ltb-false, eq-eqb, lt-ltb}
+use borrow.Author.Tests.{ltb-true, ltb-false, eq-eqb, lt-ltb, eqb-true, eqb-false}
 use Rattle.loops.specs.Loop.{loop}
 use Rattle.loops.proofs.Cases.{by-cases, never}
 use Rattle.loops.proofs.LoopLaws.{loop-keeps}
+use Rattle.geom.specs.Region.{before, after}
 use Rattle.geom.specs.Vec.{v2, distanceOf}
 use Rattle.geom.specs.declared.vec2.Vec2.{Vec2}
 use Rattle.contours.specs.Smooth.{pointAt, lastOf, heldAt, averageAt, averaged, keepAt, keptOf, samePoint, endedAt, resampled, smoothOf}
@@ -23,6 +25,27 @@ use Rattle.contours.proofs.SmoothLaws.{kept-all}
 pub short-same : (closed : Bool) (cell : Float) (ps : List Vec2) → length ps < 3 → smoothOf closed cell ps ≡ ps
 unfolding smoothOf
 short-same closed cell ps h = rw (lt-ltb (length ps) 3 h) refl
+
+-- ---- the neighbours, as the Rust numbers them
+
+pub before-mod : (n k : ℕ) → k < n → before n k ≡ (k + n - 1) % n
+before-mod n k h = by-cases (eqb k 0)
+    (λ e. let z = eqb-true k 0 e in
+    let d : k + n - 1 ≡ n - 1 = omega arith in
+    rw e (sym (ap (λ (i : ℕ). i % n) d ∙ mod-eq-of-lt (let l : n - 1 < n = omega arith in l))))
+    (λ e. let z = eqb-false k 0 e in
+    let p : 0 < k = by-cases (ltb 0 k) (ltb-true 0 k) (λ t. absurd (z (let q : k ≡ 0 = omega (arith, ltb-false 0 k t) in q))) in
+    let d : k + n - 1 ≡ 1 * n + (k - 1) = omega arith in
+    rw e (sym (ap (λ (i : ℕ). i % n) d ∙ mul-add-mod-self-right 1 n (k - 1) ∙ mod-eq-of-lt (let l : k - 1 < n = omega arith in l))))
+
+pub after-mod : (n k : ℕ) → k < n → after n k ≡ (k + 1) % n
+after-mod n k h = by-cases (eqb (k + 1) n)
+    (λ e. let z = eqb-true (k + 1) n e in
+    let d : k + 1 ≡ 1 * n + 0 = omega arith in
+    rw e (sym (ap (λ (i : ℕ). i % n) d ∙ mul-add-mod-self-right 1 n 0 ∙ mod-eq-of-lt (let l : 0 < n = omega arith in l))))
+    (λ e. let z = eqb-false (k + 1) n e in
+    let l : k + 1 < n = by-cases (ltb (k + 1) n) (ltb-true (k + 1) n) (λ t. absurd (z (let q : k + 1 ≡ n = omega (arith, ltb-false (k + 1) n t) in q))) in
+    rw e (sym (mod-eq-of-lt l)))
 
 -- ---- averaging keeps the number of points, and the ends of an open piece
 

@@ -27,7 +27,7 @@ ones-all (suc n) = let z = ones-all n in omega (arith, z)
 
 module _ (l : Lattice) (before : List ℕ) where
   -- the node that i steps lead to
-  pub walk : ℕ → ℕ → ℕ
+  unfoldable pub walk : ℕ → ℕ → ℕ
   walk v zero = v
   walk v (suc i) = getD before (walk v i) 0
 
@@ -45,12 +45,12 @@ module _ (l : Lattice) (before : List ℕ) where
   walk-from v i zero = ap (walk v) (let z : i ≡ i + 0 = omega arith in z)
   walk-from v i (suc t) = ap (λ (x : ℕ). getD before x 0) (walk-from v i t) ∙ ap (walk v) (let z : suc (i + t) ≡ i + suc t = omega arith in z)
 
-  walk-next : (v i : ℕ) → walk (getD before v 0) i ≡ walk v (suc i)
+  pub walk-next : (v i : ℕ) → walk (getD before v 0) i ≡ walk v (suc i)
   unfolding walk
   walk-next v zero = refl
   walk-next v (suc i) = ap (λ (x : ℕ). getD before x 0) (walk-next v i)
 
-  ended-next : (v k : ℕ) → Ended v (suc k) → Ended (getD before v 0) k
+  pub ended-next : (v k : ℕ) → Ended v (suc k) → Ended (getD before v 0) k
   ended-next v k E = record {
     stops = ap stop (walk-next v k) ∙ E .stops;
     goes = λ i h. ap stop (walk-next v i) ∙ E .goes (suc i) (omega arith);

@@ -14,3 +14,4 @@ pub mod ShortenLaws
 pub mod LinkLaws
 pub mod WayLaws
 pub mod BackLaws
+pub mod WalkLaws

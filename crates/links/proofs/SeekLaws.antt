@@ -77,7 +77,7 @@ module _ (l : Lattice) (L : Laid l) (words : List ℕ) (costs : List Float) (W :
 
 -- ---- every open node is one of the lattice's
 
-beyond : ℕ → Entry → Bool
+unfoldable pub beyond : ℕ → Entry → Bool
 beyond n e = leb n (e .node .0)
 
 none-beyond : (n : ℕ) (e : Entry) → e .node .0 < n → one (beyond n) e ≡ 0
@@ -99,7 +99,7 @@ sound-improved n v cand e s A E S = record {
   befores = record { known = λ k h. set-keeps (λ (x : ℕ). (x ≡ noNode → ⊥) → x < n) (s .before) (e .node .0) (v .0) k 0 (λ _. A) (S .befores .known k h) };
 }
 
-node-first : (n : ℕ) (e : Entry) (r : List Entry) → count (beyond n) (e ∷ r) ≡ 0 → e .node .0 < n
+pub node-first : (n : ℕ) (e : Entry) (r : List Entry) → count (beyond n) (e ∷ r) ≡ 0 → e .node .0 < n
 unfolding beyond
 node-first n e r c = leb-false n (e .node .0) (first-fails (beyond n) e r c)
 
@@ -147,7 +147,7 @@ module _ (l : Lattice) (L : Laid l) where
         (λ _. by-test SoundRun (ltb (nodes l) (i + 1)) _ _ (λ _. b)
         (λ _. sound-expand (e .node) (st (s .cost) (s .before) r) (node-first (nodes l) e r c) (record { opens = opens-rest (nodes l) e r c; befores = b })))
 
-    sound-turn : (i : ℕ) (r : Run Search Outcome) → SoundRun r → SoundRun (turn (seekStep l allowed squares) i r)
+    pub sound-turn : (i : ℕ) (r : Run Search Outcome) → SoundRun r → SoundRun (turn (seekStep l allowed squares) i r)
     unfolding turn seekStep beyond
     sound-turn i (on s) S = sound-next i s (s .queue) (S .opens) (S .befores)
     sound-turn i (out o) S = S

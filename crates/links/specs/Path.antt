@@ -11,6 +11,7 @@ use Rattle.geom.specs.Points.{points}
 use Rattle.geom.specs.declared.vec2.Vec2.{Vec2}
 use Rattle.raster.specs.Grid.{Over}
 use Rattle.raster.specs.Contact.{samplesOf, Rim}
+use Rattle.setup.specs.Layout.{pathFrom, rimFrom, crossingsFrom}
 use Rattle.setup.specs.Place.{Walls}
 use Rattle.setup.specs.declared.Setup.{Setup}
 use Rattle.links.specs.declared.NodeNo.{NodeNo}
@@ -28,7 +29,8 @@ use Rattle.links.specs.Straight.{linkClear}
 abbrev pub nodeNo : ℕ → NodeNo
 nodeNo v = record { 0 = v }
 
--- The centres of the nodes from v back to the start, put before ps. The Rust counts none; a way has fewer nodes than the lattice, so n of them are all.
+-- The centres of the nodes from v back to the start, at most n of them, put before ps. The Rust does not count them; a counter of nodes - 1 is never met
+-- (proofs/WalkLaws.antt `path-whole`).
 unfoldable pub backOf : Lattice → List ℕ → ℕ → ℕ → List Vec2 → List Vec2
 backOf l before zero v ps = ps
 backOf l before (suc n) v ps = cond (eqb v noNode || eqb v (l .start .0)) ps (backOf l before n (getD before v 0) (centreOf l (nodeNo v) ∷ ps))
@@ -78,10 +80,10 @@ abbrev pub wallIn : Setup → List Float → List Float
 wallIn s w = within 0 (s .grid .ny * s .grid .nx) w
 
 abbrev pub pathIn : Setup → List Float → List Float
-pathIn s w = within (20 * (s .grid .ny * s .grid .nx)) (23 * (s .grid .ny * s .grid .nx)) w
+pathIn s w = within (pathFrom (s .grid .ny * s .grid .nx)) (23 * (s .grid .ny * s .grid .nx)) w
 
 abbrev pub rimIn : Setup → List Float → List Float
-rimIn s w = within (32 * (s .grid .ny * s .grid .nx)) (32 * (s .grid .ny * s .grid .nx) + 4096) w
+rimIn s w = within (rimFrom (s .grid .ny * s .grid .nx)) (crossingsFrom (s .grid .ny * s .grid .nx)) w
 
 -- whether a straight feed is clear, by what the workspace holds
 abbrev pub clearIn : Setup → List Float → List ℕ → List ℕ → List Float → Vec2 → Vec2 → Bool

@@ -9,6 +9,7 @@ use lib.Ieee.{Float, nan, binary64, ofBits, add, lt}
 use Rattle.loops.specs.Loop.{loop, Run, on, out, turn}
 use Rattle.loops.specs.Regions.{within}
 use Rattle.geom.specs.Vec.{f0, distanceOf}
+use Rattle.setup.specs.Layout.{beforeFrom, segmentsFrom}
 use Rattle.links.specs.declared.NodeNo.{NodeNo}
 use Rattle.links.specs.declared.heap.Entry.{Entry}
 use Rattle.links.specs.declared.lattice.Lattice.{Lattice}
@@ -134,7 +135,7 @@ abbrev pub squaresIn : Lattice → List ℕ → List ℕ
 squaresIn l u = within 0 (cells l) u
 
 abbrev pub wordsIn : Lattice → List ℕ → List ℕ
-wordsIn l u = within (5 * cells l) (15 * cells l) u
+wordsIn l u = within (beforeFrom (cells l)) (segmentsFrom (cells l)) u
 
 pub record Searching (l : Lattice) (m : ℕ) (u : List ℕ) (costs : List Float) : Type 0 where
   pub long : 15 * cells l ≤ length u
