@@ -15,7 +15,7 @@ abbrev μ-loop : tie.MeasureT-loop
 μ-loop f₀ k₀ k-end f k = length f₀ - k
 
 loop-holds : tie.Need-loop-holds Inv-loop μ-loop
-loop-holds c = (filled-none _ _, omega arith)
+loop-holds c = (filled-none nan (c .args .f .now), omega arith)
 
 long : (c : tie.At-loop Inv-loop μ-loop) → length (c .loop .f) ≡ length (c .before .args .f .now)
 long c = ap length (c .loop .inv .0) ∙ filled-length nan (c .before .args .f .now) (c .loop .k) (c .loop .inv .1)
@@ -36,13 +36,13 @@ loop-again : tie.Need-loop-again Inv-loop μ-loop
 unfolding div ofBits
 loop-again c =
     let l = c .before .loop in
-    (ap (λ q. set q (l .k) nan) (l .inv .0) ∙ filled-more _ _ _ (c .loop-test .taken), omega (arith, c .loop-test .taken))
+    (ap (λ q. set q (l .k) nan) (l .inv .0) ∙ filled-more nan (c .before .before .args .f .now) (l .k) (c .loop-test .taken), omega (arith, c .loop-test .taken))
 
 same-length : tie.Need-same-length Inv-loop μ-loop
 same-length c = long (c .before)
 
 returns : tie.Need-returns Inv-loop μ-loop
-returns c = let i = c .before .loop .inv in i .0 ∙ filled-end _ _ _ (omega (arith, i .1, c .loop-test .left))
+returns c = let i = c .before .loop .inv in i .0 ∙ filled-end nan (c .before .before .args .f .now) (c .before .loop .k) (omega (arith, i .1, c .loop-test .left))
 
 pub fill-spec : {M : Type 1} → statement M
 fill-spec =

@@ -15,7 +15,7 @@ abbrev μ-loop : tie.MeasureT-loop
 μ-loop u₀ v k₀ k-end u k = length u₀ - k
 
 loop-holds : tie.Need-loop-holds Inv-loop μ-loop
-loop-holds c = (filled-none _ _, omega arith)
+loop-holds c = (filled-none (c .args .v) (c .args .u .now), omega arith)
 
 mul-u : tie.Need-mul-u Inv-loop μ-loop
 mul-u c = omega arith
@@ -32,13 +32,13 @@ loop-less c = omega arith
 loop-again : tie.Need-loop-again Inv-loop μ-loop
 loop-again c =
     let i = c .before .loop .inv in
-    (ap (λ l. set l (c .before .loop .k) (c .before .before .args .v)) (i .0) ∙ filled-more _ _ _ (c .loop-test .taken), omega (arith, c .loop-test .taken))
+    (ap (λ l. set l (c .before .loop .k) (c .before .before .args .v)) (i .0) ∙ filled-more (c .before .before .args .v) (c .before .before .args .u .now) (c .before .loop .k) (c .loop-test .taken), omega (arith, c .loop-test .taken))
 
 same-length : tie.Need-same-length Inv-loop μ-loop
-same-length c = let i = c .before .loop .inv in ap length (i .0) ∙ filled-length _ _ _ (i .1)
+same-length c = let i = c .before .loop .inv in ap length (i .0) ∙ filled-length (c .before .before .args .v) (c .before .before .args .u .now) (c .before .loop .k) (i .1)
 
 returns : tie.Need-returns Inv-loop μ-loop
-returns c = let i = c .before .loop .inv in i .0 ∙ filled-end _ _ _ (omega (arith, i .1, c .loop-test .left))
+returns c = let i = c .before .loop .inv in i .0 ∙ filled-end (c .before .before .args .v) (c .before .before .args .u .now) (c .before .loop .k) (omega (arith, i .1, c .loop-test .left))
 
 pub fill-words-spec : {M : Type 1} → statement M
 fill-words-spec =
