@@ -1,7 +1,7 @@
 -- A way's parts are read back, and what `link_path` requires holds of a Setup made of its numbers. Assumes nothing.
 use mathlib.Core.Path.{_≡_, refl, sym, ap, _∙_, subst}
 use mathlib.Core.List.{List, [], _∷_}
-use Prim.Native.Nat.{ℕ, _≤_}
+use Prim.Native.Nat.{ℕ, _*_, _≤_}
 use native.Mathlib.Omega.{arith}
 use lib.ListN.{length, set}
 use lib.Ieee.{Float}
@@ -30,11 +30,14 @@ module _ (s : Setup) (g : Grid) (region : Region) (r keep : Float) (samples : �
     long = f .long;
   }
 
+  pub cells-of : (k : ℕ) → 15 * (g .ny * g .nx) ≤ k → 15 * (s .grid .ny * s .grid .nx) ≤ k
+  cells-of k h = subst (λ (z : Setup). 15 * (z .grid .ny * z .grid .nx) ≤ k) (sym e) h
+
   pub path-by : (vs : List Float) (lens m allowed : List ℕ) (w : List Float) (a d : Vec2) (p : Route) (out : List ℕ) (w′ : List Float) → 2 ≤ length out
       → linkedIn s p w′ ≡ linkPath s (wallIn s w) vs lens m allowed a d → PathBy g region r keep samples vs lens m allowed w a d (routeIn (p .found) (set (set out 0 (p .points)) 1 (p .work))) w′
   path-by vs lens m allowed w a d p out w′ l h = record {
     bound = s .bound;
     bounds = b;
     is = ap (λ (q : Route). linkedIn (placed g region r keep samples (s .bound)) q w′) (route-back p out l)
-      ∙ subst (λ (z : Setup). linkedIn z p w′ ≡ linkPath z (wallIn z w) vs lens m allowed a d) e h;
+        ∙ subst (λ (z : Setup). linkedIn z p w′ ≡ linkPath z (wallIn z w) vs lens m allowed a d) e h;
   }

@@ -6,9 +6,9 @@ use Prim.Native.Nat.{ℕ, _+_, _-_, _*_, _≤_, _<_}
 use native.Mathlib.Omega.{arith}
 use native.Mathlib.Nat.{mul-le-mul-right, mul-pos}
 use lib.Dec.{eqb, ltb}
-use lib.ListN.{length, take, drop, replicate, length-append, length-replicate, length-drop}
+use lib.ListN.{length, getD, take, drop, replicate, length-append, length-replicate, length-drop}
 use lib.Seq.{take-take}
-use lib.Ieee.{Float}
+use lib.Ieee.{Float, nan}
 use borrow.Rule.Slice.PartMut.{putMid}
 use Rattle.loops.specs.Regions.{Fits, within}
 use Rattle.loops.specs.Loop.{loop, Run, on, out, turn}
@@ -19,7 +19,8 @@ use Rattle.geom.specs.Points.{putPoint, points}
 use Rattle.geom.specs.declared.vec2.Vec2.{Vec2}
 use Rattle.distance.specs.Least as least
 use Rattle.distance.specs.Nearest.{squaresOf, transformOf}
-use Rattle.distance.proofs.NearestLaws.{listed-long, squares-are}
+use Rattle.distance.specs.Rooted.{distanceOf, distanceTransform}
+use Rattle.distance.proofs.NearestLaws.{listed-long, listed-at, squares-are}
 use Rattle.raster.specs.Grid.{Over, cellOf}
 use Rattle.raster.specs.Contact.{samplesOf, Rim}
 use Rattle.raster.specs.declared.grid.Grid.{Grid}
@@ -101,6 +102,11 @@ transform-long m nx ny s t h e =
     let c = length-drop (ny * nx + 3 * nx) s in
     let d = squares-long m nx ny in
     omega (arith, a, b, c, d))
+
+-- a node's distance by its square is that of the Rust's `distance_transform`
+pub square-distance : (m : List ℕ) (nx ny k : ℕ) → k < ny * nx → distanceOf (getD (squaresOf 1 m nx ny) k 0) ≡ getD (distanceTransform 1 m nx ny) k nan
+unfolding squaresOf distanceTransform
+square-distance m nx ny k h = ap distanceOf (listed-at _ 0 (ny * nx) k h) ∙ sym (listed-at _ nan (ny * nx) k h)
 
 -- ---- the path back, then its shortening
 

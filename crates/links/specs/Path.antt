@@ -67,7 +67,7 @@ shortenFrom clear pt end zero here first path = lost
 shortenFrom clear pt end (suc n) here first path =
     cond (ltb first end) (onward (farthestOf clear pt here first (end - first)) (λ (k : ℕ). shortenFrom clear pt end n (pt k) (k + 1) (path ++ (pt k ∷ [])))) (way path)
 
--- point k of a list, of which there is one
+-- point k of a list that has it
 abbrev pub pointIn : List Vec2 → Vec2 → ℕ → Vec2
 pointIn ps d k = getD ps k d
 

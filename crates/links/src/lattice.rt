@@ -4,7 +4,7 @@ ghost use Prim.Native.Nat.{_*_, _≤_, _<_};
 ghost use lib.ListN.{length, getD};
 ghost use Rattle.numbers.specs.Whole.{above};
 ghost use Rattle.raster.specs.Grid.{Sides, Over};
-ghost use Rattle.links.specs.Lattice.{spacingOf, along, centreAt, nodeAt, latticeOf, nodes, columnOf, rowOf, cellOfNode, centreOf, nodeFree};
+ghost use Rattle.links.specs.Lattice.{spacingOf, along, centreAt, nodeAt, latticeOf, nodes, cellOfNode, centreOf, nodeFree};
 ghost use Rattle.links.specs.Lattice.{besideX, besideY, onLattice, besideOf, IsNode, Laid, boundOf, Limited};
 use super::NodeNo;
 use distance::limits::Bound;

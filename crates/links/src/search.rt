@@ -1,5 +1,6 @@
 // The search for a way over the lattice. Two slices hold its state: a number for each node (the node
-// before it; its cost), then the heap of open entries (their nodes; their estimates).
+// before it; its cost), then the heap of open entries (their nodes; their estimates). In the u32 of the
+// workspace, of n cells, the squares of the distance to stock are at 0 and the state from 5 n to 15 n.
 ghost use mathlib.Core.Path.{_≡_};
 ghost use mathlib.Core.List.{_++_};
 ghost use Prim.Native.Nat.{_+_, _-_, _*_, _≤_, _<_};
