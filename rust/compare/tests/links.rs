@@ -7,6 +7,7 @@ use compare::links::{Heap, Ways};
 use compare::planners::{each, point};
 use oracle::generate::Rng;
 use oracle::planner::{Node, Planner};
+use oracle::switches::{self, Switches};
 use oracle::vec2::Vec2;
 
 /// The link search keeps its nodes by the estimate's negative, since the standard heap pops the greatest.
@@ -90,13 +91,14 @@ fn clear(r: &mut Rng, p: &Planner) -> Option<Vec2> {
     (0..200).map(|_| point(r, p)).find(|&q| p.allowed_at(q) && p.free(q))
 }
 
+/// `ties` counts the ways that another order of equal estimates would change.
 #[test]
 fn ways() {
-    let (mut found, mut searched, mut long, mut calls) = (0, 0, 0, 0);
+    let (mut found, mut searched, mut long, mut ties, mut calls) = (0, 0, 0, 0, 0);
     each(|r, p, lent| {
         let map: Vec<u8> = p.m.data.iter().map(|&b| b as u8).collect();
         let mut ways = Ways::new(p);
-        for _ in 0..40 {
+        for _ in 0..120 {
             let (Some(a), Some(b)) = (clear(r, p), clear(r, p)) else { break };
             // Now and then an end where the tool may not be, or off the raster.
             let b = if r.chance(0.1) { point(r, p) } else { b };
@@ -107,11 +109,15 @@ fn ways() {
             let listed = |w: &Option<Vec<Vec2>>| w.as_ref().map(|w| w.iter().map(bits).collect::<Vec<_>>());
             assert_eq!(listed(&got.points), listed(&want), "{a:?} {b:?}");
             assert_eq!(got.work, p.work - before);
+            switches::set(Switches { higher_first: true, ..Switches::default() });
+            ties += (listed(&p.link_path(a, b)) != listed(&want)) as usize;
+            switches::set(Switches::default());
             found += want.is_some() as usize;
             searched += (got.work > 0) as usize;
             long += want.is_some_and(|w| w.len() > 1) as usize;
             calls += 1;
         }
     });
-    assert!(calls > 1_000 && searched > 300 && found > 300 && long > 50, "{calls} {searched} {found} {long}");
+    let met = format!("{calls} {searched} {found} {long} {ties}");
+    assert!(calls > 4_000 && searched > 500 && found > 4_000 && long > 100 && ties > 0, "{met}");
 }
