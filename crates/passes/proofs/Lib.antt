@@ -1,0 +1,9 @@
+pub mod ShiftLaws
+pub mod SimulateLaws
+pub mod ServedLaws
+pub mod TriedLaws
+pub mod GuideLaws
+pub mod LayLaws
+pub mod BlendLaws
+pub mod StartLaws
+pub mod WorthLaws

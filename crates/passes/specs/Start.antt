@@ -1,0 +1,44 @@
+-- Where a pass starts on a closed piece, as `cut_piece` of adaptive.rs has it. Definitions only.
+use Prim.Native.Nat.{ℕ, _+_, _*_, _/_, _%_}
+use mathlib.Core.Bool.{Bool, true, false, cond}
+use mathlib.Core.List.{List}
+use lib.ListN.{length, getD}
+use lib.Ieee.{Float}
+use Rattle.loops.specs.Loop.{loop}
+use Rattle.numbers.specs.Order.{totalOf}
+use Rattle.numbers.specs.declared.order.Ordering.{Ordering}
+use Rattle.numbers.specs.declared.order.Ordering.the-variants.{Less, Equal, Greater}
+use Rattle.geom.specs.Vec.{distanceOf}
+use Rattle.geom.specs.declared.vec2.Vec2.{Vec2}
+use Rattle.passes.specs.Simulate.{nowhere}
+use Rattle.passes.specs.declared.start.Near.{Near}
+use Rattle.passes.specs.declared.start.Place.{Place}
+use Rattle.passes.specs.declared.start.Place.the-variants.{At, Nowhere}
+
+unfoldable pub isGreater : Ordering → Bool
+isGreater Less = false
+isGreater Equal = false
+isGreater Greater = true
+
+abbrev pub nr : ℕ → Float → Near
+nr k d = record { at = k; far = d }
+
+-- of two the first, unless the second is nearer in the total order
+unfoldable pub nearer : Near → ℕ → Float → Near
+nearer b k d = cond (isGreater (totalOf (b .far) d)) (nr k d) b
+
+unfoldable pub nearStep : List Vec2 → Vec2 → ℕ → Near → Near
+nearStep pts p k b = nearer b k (distanceOf (getD pts k nowhere) p)
+
+-- the point nearest to p, the first on a tie: (0..n).min_by(..)
+unfoldable pub nearestOf : List Vec2 → Vec2 → ℕ
+nearestOf pts p = loop (nearStep pts p) 1 (length pts) (nr 0 (distanceOf (getD pts 0 nowhere) p)) .at
+
+-- pos.map_or(0, ..)
+unfoldable pub nearOf : List Vec2 → Place → ℕ
+nearOf pts Nowhere = 0
+nearOf pts (At p) = nearestOf pts p
+
+-- the kth of four starts round the piece: (near + k * n / 4) % n
+unfoldable pub startOf : ℕ → ℕ → ℕ → ℕ
+startOf near n k = (near + k * n / 4) % n
