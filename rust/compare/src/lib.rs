@@ -2,8 +2,8 @@
 //!
 //! `numbers` lists the functions to compare, `ffi` declares them, `inputs` has the numbers they are
 //! compared on; `distance`, `geom`, `raster`, `setup`, `field`, `contours` and `links` have the
-//! functions that are lent slices, and `planners` the planners whose fields are lent. The tests compare bits and the
-//! programs `bench` and `bench_distance` time.
+//! functions that are lent slices, and `planners` the planners whose fields are lent. The tests compare
+//! bits; the programs `bench`, `bench_distance`, `bench_contours` and `bench_links` time.
 pub mod bits;
 pub mod contours;
 pub mod distance;
@@ -16,3 +16,4 @@ pub mod numbers;
 pub mod planners;
 pub mod raster;
 pub mod setup;
+pub mod timing;

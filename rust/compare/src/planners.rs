@@ -53,3 +53,15 @@ pub fn each(mut check: impl FnMut(&mut Rng, &mut Planner, &Lent)) {
     }
     assert!(jobs > JOBS / 2);
 }
+
+/// Calls `work` with the name and the planner of each of the larger jobs, its map partly cleared.
+pub fn each_large(mut work: impl FnMut(&str, &mut Rng, &mut Planner, &Lent)) {
+    let mut r = Rng(1);
+    for (name, job) in generate::large() {
+        let (region, stock) = job.regions();
+        let mut hooks = Hooks::new(job.lent_triples, job.lent_rows, false);
+        let mut p = Planner::new(&region, stock.as_deref(), &job.params, &mut hooks).unwrap();
+        cut(&mut r, &mut p, 40);
+        work(name, &mut r, &mut p, &Lent::new(&region, 1, 2));
+    }
+}
