@@ -6,24 +6,25 @@ use mathlib.Core.Option.{Option, none, some}
 use Prim.Native.Nat.{ℕ, zero, suc, _+_, _-_, _*_, _/_, _%_, _≤_, _<_}
 use native.Mathlib.Omega.{arith}
 use lib.ListN.{length, getD, take, drop, set, length-append, length-drop, take-append-drop, List·getD-append}
-use lib.Seq.{length-take-le, getD-take, getD-drop, getD-append-add, getD-at, drop-cons, set-at, ext-getD}
+use lib.Seq.{length-take-le, getD-take, getD-drop, getD-append-add, getD-at, drop-cons, set-at, take-at, drop-at, ext-getD}
 use lib.Dec.{ltb, eqb}
 use lib.Ieee.{Float, nan}
 use borrow.Author.Tests.{lt-ltb, le-ltb, ltb-true, ltb-false, eqb-true, eqb-false}
 use borrow.Rule.Slice.PartMut.{putMid}
 use Rattle.loops.specs.Regions.{Fits, within, put}
 use Rattle.loops.proofs.Cases.{by-cases}
-use Rattle.loops.proofs.RegionLaws.{region-long, put-is, put-back, put-length}
+use Rattle.loops.proofs.RegionLaws.{region-long, put-is, put-back, put-before, put-length}
 use Rattle.geom.specs.Vec.{v2}
 use Rattle.geom.specs.Region.{vertexOf}
 use Rattle.geom.specs.Points.{points}
 use Rattle.geom.specs.declared.vec2.Vec2.{Vec2}
 use Rattle.geom.proofs.PointLaws.{points-length}
 use Rattle.passes.specs.Simulate.{nowhere}
+use Rattle.setup.specs.Place.{Walls, allowedAt, freeAt}
 use Rattle.setup.specs.declared.Setup.{Setup}
 use Rattle.passes.specs.declared.guide.Blend.{Blend}
 use Rattle.passes.specs.declared.guide.Blend.the-variants.{By, Nothing}
-use Rattle.passes.specs.Guide.{bentOf, chooseOf, blended, blendOf, roundTo, walkOf, flat, pointsIn, laid, isSome, Ahead}
+use Rattle.passes.specs.Guide.{bentOf, chooseOf, blended, blendOf, roundTo, walkOf, flat, pointsIn, laid, bentOr, isSome, Ahead}
 use Rattle.passes.proofs.SimulateLaws.{point-in}
 
 -- ---- flat
@@ -287,3 +288,62 @@ module _ (at m : ℕ) (w : List Float) (h : at + 2 * m ≤ length w) where
         let g : points 0 m r ≡ bentOf len far (pointsIn at m w) =
         ap (λ (k : ℕ). points 0 k r) (sym part-half) ∙ d ∙ ap (λ (k : ℕ). bentOf len far (points 0 k part)) part-half in
         (ap isSome (sym z), put-is at (at + 2 * m) w part-fits r (flat (bentOf len far (pointsIn at m w))) (sym (flat-points r m (l ∙ part-long)) ∙ ap flat g) ∙ ap (λ (o : Option (List Vec2)). laid at m o w) (sym z))
+
+-- ---- walked, then bent
+
+-- what is put where something was put stands in its place
+put-again : (a e : ℕ) (w r q : List Float) → Fits a e w → length r ≡ e - a → put a e q (put a e r w) ≡ put a e q w
+unfolding put
+put-again a e w r q f l =
+    let b = f .start in
+    let c = f .end in
+    let h : length (take a w) ≡ a = length-take-le a w (omega arith) in
+    let k : length (take a w ++ r) ≡ e = omega (arith, h, length-append (take a w) r) in
+    ap (λ (t : List Float). t ++ (q ++ drop e (take a w ++ (r ++ drop e w)))) (take-at (take a w) (r ++ drop e w) a h)
+    ∙ ap (λ (t : List Float). take a w ++ (q ++ t)) (ap (drop e) (sym (append-assoc (take a w) r (drop e w))) ∙ drop-at (take a w ++ r) (drop e w) e k)
+
+module _ (cells from m start n at : ℕ) (w : List Float) (A : Ahead from m start n at (length w)) (C : cells ≤ at)
+    (w₁ : List Float) (W : w₁ ≡ put at (at + 2 * n) (flat (walkOf (pointsIn from m w) start n)) w) where
+  abbrev trod : List Vec2
+  trod = walkOf (pointsIn from m w) start n
+
+  trod-fits : Fits at (at + 2 * n) w
+  trod-fits = let a = A .within in record { start = omega arith; end = a }
+
+  trod-long : length (flat trod) ≡ at + 2 * n - at
+  trod-long = let a = flat-length trod in let b = walk-length (pointsIn from m w) start n in omega arith
+
+  lay-long : length w₁ ≡ length w
+  lay-long = ap length W ∙ put-length at (at + 2 * n) w (flat trod) trod-fits trod-long
+
+  pub lay-low : cells ≤ length w₁
+  lay-low = let a = A .within in omega (arith, lay-long)
+
+  pub lay-high : at + 2 * n ≤ length w₁
+  lay-high = let a = A .within in omega (arith, lay-long)
+
+  -- the wall distances are as they were
+  lay-wall : within 0 cells w₁ ≡ within 0 cells w
+  lay-wall = ap (within 0 cells) W ∙ put-before at (at + 2 * n) w (flat trod) trod-fits trod-long 0 cells (omega arith) C
+
+  lay-points : pointsIn at n w₁ ≡ trod
+  lay-points = ap (pointsIn at n) W ∙ ap (points 0 n) (put-back at (at + 2 * n) w (flat trod) trod-fits trod-long) ∙ points-flat trod n (walk-length (pointsIn from m w) start n)
+
+  lay-put : (b : Option (List Vec2)) → laid at n b w₁ ≡ put at (at + 2 * n) (flat (bentOr trod b)) w
+  unfolding laid bentOr
+  lay-put none = W
+  lay-put (some l) = ap (put at (at + 2 * n) (flat l)) W ∙ put-again at (at + 2 * n) w (flat trod) (flat l) trod-fits trod-long
+
+  pub lay-walls : (s : Setup) (vs : List Float) (lens : List ℕ) → Walls s (within 0 cells w) vs lens → Walls s (within 0 cells w₁) vs lens
+  lay-walls s vs lens h = subst (λ (v : List Float). Walls s v vs lens) (sym lay-wall) h
+
+  module _ (s : Setup) (vs : List Float) (lens mp : List ℕ) where
+    abbrev blend : Option (List Vec2)
+    blend = blendOf s (allowedAt s (within 0 cells w) vs lens) (freeAt s mp) trod
+
+    lay-blend : blendOf s (allowedAt s (within 0 cells w₁) vs lens) (freeAt s mp) (pointsIn at n w₁) ≡ blend
+    lay-blend = ap (λ (v : List Float). blendOf s (allowedAt s v vs lens) (freeAt s mp) (pointsIn at n w₁)) lay-wall ∙ ap (blendOf s (allowedAt s (within 0 cells w) vs lens) (freeAt s mp)) lay-points
+
+    pub lay-is : (r : Bool) (w₂ : List Float) → r ≡ isSome (blendOf s (allowedAt s (within 0 cells w₁) vs lens) (freeAt s mp) (pointsIn at n w₁))
+        → w₂ ≡ laid at n (blendOf s (allowedAt s (within 0 cells w₁) vs lens) (freeAt s mp) (pointsIn at n w₁)) w₁ → (r ≡ isSome blend) × (w₂ ≡ put at (at + 2 * n) (flat (bentOr trod blend)) w)
+    lay-is r w₂ a b = (a ∙ ap isSome lay-blend, b ∙ ap (λ (o : Option (List Vec2)). laid at n o w₁) lay-blend ∙ lay-put blend)

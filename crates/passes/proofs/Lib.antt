@@ -1,9 +1,11 @@
 pub mod ShiftLaws
 pub mod SimulateLaws
 pub mod ServedLaws
+pub mod KeepLaws
 pub mod TriedLaws
 pub mod GuideLaws
 pub mod LayLaws
 pub mod BlendLaws
 pub mod StartLaws
 pub mod WorthLaws
+pub mod AttemptLaws

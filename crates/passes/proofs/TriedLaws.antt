@@ -10,10 +10,9 @@ use lib.Seq.{getD-set-same, getD-set-other}
 use lib.Dec.{leb}
 use lib.Ieee.{Float, nan, binary64, ofBits, add, mul, lt, le}
 use borrow.Author.Tests.{leb-false}
-use Rattle.loops.specs.Loop.{loop, Run, on, out, turn}
+use Rattle.loops.specs.Loop.{loop, on, turn}
 use Rattle.loops.specs.Cells.{ones}
 use Rattle.loops.proofs.Cases.{by-test}
-use Rattle.loops.proofs.LoopLaws.{loop-keeps}
 use Rattle.numbers.specs.Circle.{radiansOf}
 use Rattle.geom.specs.Vec.{v2, f0}
 use Rattle.geom.specs.declared.vec2.Vec2.{Vec2}
@@ -33,13 +32,12 @@ use Rattle.events.specs.Events.{State, state, cutsFrom, cutsOf, passLogged, Poi
 use Rattle.events.proofs.LentLaws.{trial-none, trial-more}
 use Rattle.events.proofs.TrialLaws.{pass-cells}
 use Rattle.events.proofs.PassLaws.{lastAt, last-more, laterLogged, later-more, checked-more, pointsFrom}
-use Rattle.passes.specs.declared.shifts.Shift.{Shift}
-use Rattle.passes.specs.declared.shifts.Shift.the-variants.{At, Nothing}
-use Rattle.passes.specs.declared.trial.Leg.{Leg}
+use Rattle.passes.specs.declared.shifts.Shift.the-variants.{At}
 use Rattle.passes.specs.Shifts.{maxShift}
-use Rattle.passes.specs.Simulate.{nowhere, gapOf, Pass, ps, tr, spent, filled, hOf, stepOf, advanceOf, went, sampleStep, sampleOf, alongLeg, legStep, ended, begun, simulateOf}
+use Rattle.passes.specs.Simulate.{nowhere, Pass, ps, tr, spent, filled, stepOf, advanceOf, legStep, ended, begun, simulateOf}
 use Rattle.passes.specs.Tried.{jobFor, Measured}
 use Rattle.passes.proofs.ServedLaws.{Served, search-served}
+use Rattle.passes.proofs.KeepLaws.{keeps-legs}
 
 -- ---- triples that are put are read back, and no other changes
 
@@ -155,40 +153,9 @@ module _ (s : Setup) (allowed : Vec2 → Bool) (start : List ℕ) (limit : Float
           prev = sym (last-more (first .at) (h .later) (pt q e));
         }
 
-  -- ---- the loops: on or left, the pass is one that goes
-
-  abbrev Still : Run Pass Pass → Type 0
-  Still (on p) = Goes p
-  Still (out p) = Goes p
-
-  still-went : (p : Pass) (f : Shift) → Goes p → Served s allowed (p .cells) f → Still (went s allowed kept p f)
-  unfolding went
-  still-went p Nothing h g = h
-  still-went p (At q e x) h g =
-      by-test Still (gapOf (hOf s) (maxShift s) q (p .trial .prev)) _ _
-      (λ t. h)
-      (λ t. by-test Still (leb (length (p .out) / 3) (kept + p .trial .points)) _ _
-      (λ b. goes-filled p h)
-      (λ b. goes-on p h q e x g (leb-false (length (p .out) / 3) (kept + p .trial .points) b)))
-
-  still-sample : (l : Leg) (k : ℕ) (r : Run Pass Pass) → Still r → Still (turn (sampleStep s allowed kept l) k r)
-  unfolding turn sampleStep
-  still-sample l k (out p) h = h
-  still-sample l k (on p) h =
-      still-went (spent _ p) _ (goes-spent _ p h) (search-served s allowed (p .cells) (M .below) (sampleOf l (k + 1)) (l .left) (stepOf s) (maxShift s) (p .trial .shift) (p .trial .work))
-
-  still-leg : (pts : List Vec2) (k : ℕ) (r : Run Pass Pass) → Still r → Still (turn (legStep s allowed kept pts) k r)
-  unfolding turn legStep alongLeg
-  still-leg pts k (out p) h = h
-  still-leg pts k (on p) h = loop-keeps (turn (sampleStep s allowed kept _)) 0 Still _ (λ i r b c g. still-sample _ i r g) (on p) h
-
-  still-ended : (r : Run Pass Pass) → Still r → Goes (ended r)
-  unfolding ended
-  still-ended (on p) h = h
-  still-ended (out p) h = h
-
   goes-legs : (pts : List Vec2) (n : ℕ) (p : Pass) → Goes p → Goes (ended (loop (turn (legStep s allowed kept pts)) 1 n (on p)))
-  goes-legs pts n p h = still-ended _ (loop-keeps (turn (legStep s allowed kept pts)) 1 Still n (λ i r b c g. still-leg pts i r g) (on p) h)
+  goes-legs pts n p h =
+      keeps-legs s allowed kept (Served s allowed) (λ m g left shift work. search-served s allowed m (M .below) g left (stepOf s) (maxShift s) shift work) Goes goes-spent goes-filled goes-on pts n p h
 
 -- ---- the theorem
 

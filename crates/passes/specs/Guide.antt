@@ -131,6 +131,11 @@ unfoldable pub laid : ℕ → ℕ → Option (List Vec2) → List Float → List
 laid at m none w = w
 laid at m (some l) w = put at (at + 2 * m) (flat l) w
 
+-- what the guide's places hold after the try: the bent points, or those that were walked
+unfoldable pub bentOr : List Vec2 → Option (List Vec2) → List Vec2
+bentOr pts none = pts
+bentOr pts (some l) = l
+
 unfoldable pub isSome : {A : Type 0} → Option A → Bool
 isSome none = false
 isSome (some a) = true

@@ -5,3 +5,4 @@ pub mod Tried
 pub mod Guide
 pub mod Worth
 pub mod Start
+pub mod Attempt

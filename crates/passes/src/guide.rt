@@ -10,7 +10,7 @@ ghost use Rattle.raster.specs.Grid.{Over};
 ghost use Rattle.setup.specs.Place.{Walls, allowedAt, freeAt};
 ghost use Rattle.passes.specs.Simulate.{nowhere};
 ghost use Rattle.passes.specs.Guide.{totalOf, alongOf, bentAt, afterOf, bentOf, farOf, chooseOf, blendOf};
-ghost use Rattle.passes.specs.Guide.{roundTo, walkOf, flat, pointsIn, laid, isSome, Ahead};
+ghost use Rattle.passes.specs.Guide.{roundTo, walkOf, flat, pointsIn, laid, bentOr, isSome, Ahead};
 use super::shifts::bite_of;
 use geom::region::vertex;
 use geom::vec2::Vec2;
@@ -203,4 +203,31 @@ pub fn blend_in(
     };
     bend(&mut w[at..e], len, far);
     true
+}
+
+// The guide of n points at `at` for the piece of m points at `from`, walked from its point `start` on and
+// bent out at its start; not where no way out serves.
+pub fn lay_guide(
+    s: Setup,
+    vs: &[f64],
+    lens: &[u32],
+    map: &[u8],
+    w: &mut [f64],
+    cells: usize,
+    from: usize,
+    m: usize,
+    start: usize,
+    n: usize,
+    at: usize,
+) -> bool
+    requires { ⌜ Walls s (within 0 cells (now w)) (now vs) (now lens) ⌝ }
+    requires { ⌜ Over (s .grid) (length (now map)) ⌝ }
+    requires { ⌜ Ahead from m start n at (length (now w)) ⌝ }
+    requires { ⌜ cells ≤ at ⌝ }
+    requires { ⌜ 1 ≤ n ⌝ }
+    ensures { λ r. ⌜ r ≡ isSome (blendOf s (allowedAt s (within 0 cells (now (w .entry))) (now (vs .entry)) (now (lens .entry))) (freeAt s (now (map .entry))) (walkOf (pointsIn from m (now (w .entry))) start n)) ⌝ }
+    ensures { λ _. ⌜ now (w .exit) ≡ put at (at + 2 * n) (flat (bentOr (walkOf (pointsIn from m (now (w .entry))) start n) (blendOf s (allowedAt s (within 0 cells (now (w .entry))) (now (vs .entry)) (now (lens .entry))) (freeAt s (now (map .entry))) (walkOf (pointsIn from m (now (w .entry))) start n)))) (now (w .entry)) ⌝ }
+{
+    walk(w, from, m, start, n, at);
+    blend_in(s, vs, lens, map, w, cells, at, n)
 }

@@ -1,0 +1,54 @@
+-- `passes::attempt::try_guide` meets its contract. Assumes nothing.
+use Rattle.passes.proofs.AttemptLaws.{tried-logged, tried-back, tried-room, tried-full, tried-judged}
+use borrow.Author.Needs.{needs}
+use Rattle.passes.proofs.attempt.try_guide.Statement.{statement}
+use Rattle.passes.proofs.attempt.try_guide.Tie as tie
+
+simulate-requires : tie.Need-simulate-requires
+simulate-requires c κs = search needs
+
+undo-requires : tie.Need-undo-requires
+undo-requires c κs = tried-logged _ _ _ _ _ _ _ _ _ _ _ (c .before .before .before .before .before .before .before .before .simulate .ensures) (c .before .before .before .before .before .before .before .before .before .before .before .before .before .before .before .before .before .before .before .before .before .pre .1 .1 .ready)
+
+same-length : tie.Need-same-length
+same-length c = search needs
+
+same-length-2 : tie.Need-same-length-2
+same-length-2 c = search needs
+
+same-length-3 : tie.Need-same-length-3
+same-length-3 c = search needs
+
+returns : tie.Need-returns
+returns c = (tried-back _ _ _ _ _ _ _ _ _ _ _ (c .before .before .before .before .before .before .before .before .before .before .before .before .simulate .ensures) (c .before .before .before .before .before .before .before .before .before .before .before .before .before .before .before .before .before .before .before .before .before .before .before .before .before .pre .1 .1 .ready) _ (c .before .before .before .undo .ensures), tried-full _ _ _ _ _ _ _ _ _ _ _ (c .before .before .before .before .before .before .before .before .before .before .before .before .simulate .ensures) (c .if1 .taken))
+
+worth-requires : tie.Need-worth-requires
+worth-requires c κs = tried-room _ _ _ _ _ _ _ _ _ _ _ (c .before .before .before .before .before .before .before .before .before .before .before .before .before .simulate .ensures) (c .before .if1 .left)
+
+same-length-4 : tie.Need-same-length-4
+same-length-4 c = search needs
+
+same-length-5 : tie.Need-same-length-5
+same-length-5 c = search needs
+
+same-length-6 : tie.Need-same-length-6
+same-length-6 c = search needs
+
+returns-2 : tie.Need-returns-2
+returns-2 c = (tried-back _ _ _ _ _ _ _ _ _ _ _ (c .before .before .before .before .before .before .before .before .before .before .before .before .before .before .simulate .ensures) (c .before .before .before .before .before .before .before .before .before .before .before .before .before .before .before .before .before .before .before .before .before .before .before .before .before .before .before .pre .1 .1 .ready) _ (c .before .before .before .before .before .undo .ensures), tried-judged _ _ _ _ _ _ _ _ _ _ _ (c .before .before .before .before .before .before .before .before .before .before .before .before .before .before .simulate .ensures) (c .before .before .if1 .left) _ (c .worth .ensures))
+
+pub try-guide-spec : {M : Type 1} → statement M
+try-guide-spec =
+    tie.close
+    (tie.spec
+    simulate-requires
+    undo-requires
+    same-length
+    same-length-2
+    same-length-3
+    returns
+    worth-requires
+    same-length-4
+    same-length-5
+    same-length-6
+    returns-2)
