@@ -9,3 +9,4 @@ pub mod BlendLaws
 pub mod StartLaws
 pub mod WorthLaws
 pub mod AttemptLaws
+pub mod PieceLaws
