@@ -1,2 +1,3 @@
 pub mod SetupLaws
 pub mod PathLaws
+pub mod PassLaws

@@ -3,3 +3,4 @@ pub mod Numbers
 pub mod Geom
 pub mod Raster
 pub mod Setup
+pub mod Passes

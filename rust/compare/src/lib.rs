@@ -1,7 +1,7 @@
 //! The proved library beside the published Rust.
 //!
 //! `numbers` lists the functions to compare, `ffi` declares them, `inputs` has the numbers they are
-//! compared on; `distance`, `geom`, `raster`, `setup`, `field`, `contours` and `links` have the
+//! compared on; `distance`, `geom`, `raster`, `setup`, `field`, `contours`, `links` and `passes` have the
 //! functions that are lent slices, and `planners` the planners whose fields are lent. The tests compare
 //! bits; the programs `bench`, `bench_distance`, `bench_contours` and `bench_links` time.
 pub mod bits;
@@ -13,6 +13,7 @@ pub mod geom;
 pub mod inputs;
 pub mod links;
 pub mod numbers;
+pub mod passes;
 pub mod planners;
 pub mod raster;
 pub mod setup;

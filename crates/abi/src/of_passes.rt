@@ -1,0 +1,101 @@
+// The functions of `passes`.
+ghost use mathlib.Core.Path.{_≡_};
+ghost use Prim.Native.Nat.{_≤_};
+ghost use lib.ListN.{length};
+ghost use Rattle.numbers.specs.Bound.{Bounds};
+ghost use Rattle.numbers.specs.declared.bound.Bound.the-variants.{Untold};
+ghost use Rattle.raster.specs.Contact.{samplesOf, Rim};
+ghost use Rattle.setup.specs.Place.{Walls};
+ghost use Rattle.passes.specs.Simulate.{Usable};
+ghost use Rattle.abi.specs.Geom.{region};
+ghost use Rattle.abi.specs.Raster.{grid};
+ghost use Rattle.abi.specs.Passes.{passing, PassBy};
+use geom::region::Region;
+use geom::vec2::Vec2;
+use raster::grid::Grid;
+use setup::Setup;
+
+fn passing(
+    grid: Grid,
+    region: Region,
+    r: f64,
+    wide: f64,
+    keep: f64,
+    target: f64,
+    guard: f64,
+    samples: usize,
+) -> Setup
+    ensures { λ s. ⌜ (s ≡ passing grid region r wide keep target guard samples (s .bound)) × Bounds keep (s .bound) ⌝ }
+{
+    let bound = numbers::bound::bound_of(keep);
+    Setup {
+        grid,
+        region,
+        r,
+        r_guard: wide,
+        keep,
+        bound,
+        target,
+        guard,
+        samples,
+        keep_down: true,
+    }
+}
+
+// Whether the triples were too few; `out` gets the points, the cells removed and the work.
+#[no_mangle]
+pub extern "C" fn passes_simulate(
+    ox: f64,
+    oy: f64,
+    cell: f64,
+    nx: usize,
+    ny: usize,
+    wall: &[f64],
+    vs: &[f64],
+    lens: &[u32],
+    at: usize,
+    first: usize,
+    loops: usize,
+    r: f64,
+    wide: f64,
+    keep: f64,
+    target: f64,
+    guard: f64,
+    samples: usize,
+    rim: &[f64],
+    guide: &[f64],
+    map: &mut [u8],
+    log: &mut [u32],
+    triples: &mut [f64],
+    kept: usize,
+    out: &mut [u64],
+) -> bool
+    requires { ⌜ Walls (passing (grid ox oy cell nx ny) (region at first loops) r wide keep target guard samples Untold) (now wall) (now vs) (now lens) ⌝ }
+    requires { ⌜ Rim (samplesOf samples) (now rim) ⌝ }
+    requires { ⌜ Usable (passing (grid ox oy cell nx ny) (region at first loops) r wide keep target guard samples Untold) (now map) (now log) (now guide) ⌝ }
+    requires { ⌜ 3 ≤ length (now out) ⌝ }
+    ensures { λ t. ⌜ PassBy (grid ox oy cell nx ny) (region at first loops) r wide keep target guard samples (now (wall .entry)) (now (vs .entry)) (now (lens .entry)) (now (guide .entry)) kept (now (map .entry)) (now (log .entry)) (now (triples .entry)) (now (map .exit)) (now (log .exit)) (now (triples .exit)) t (now (out .exit)) ⌝ }
+{
+    let origin = Vec2 { x: ox, y: oy };
+    let g = Grid {
+        origin,
+        cell,
+        nx,
+        ny,
+    };
+    let s = passing(
+        g,
+        Region { at, first, loops },
+        r,
+        wide,
+        keep,
+        target,
+        guard,
+        samples,
+    );
+    let t = passes::trial::simulate(s, wall, vs, lens, rim, guide, map, log, triples, kept);
+    out[0] = t.points as u64;
+    out[1] = t.removed as u64;
+    out[2] = t.work as u64;
+    t.full
+}
