@@ -13,7 +13,6 @@ use Rattle.raster.specs.declared.grid.Grid.{Grid}
 use Rattle.links.specs.Path.{wallIn}
 use Rattle.links.specs.Link.{linkPath, linkedIn}
 use Rattle.links.specs.declared.link.Route.{Route}
-use Rattle.links.specs.declared.NodeNo.{NodeNo}
 use Rattle.links.specs.declared.heap.Entry.{Entry}
 use Rattle.abi.specs.Setup.{placed}
 

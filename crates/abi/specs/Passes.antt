@@ -7,7 +7,6 @@ use lib.ListN.{length, getD}
 use lib.Ieee.{Float}
 use Rattle.numbers.specs.Bound.{Bounds}
 use Rattle.numbers.specs.declared.bound.Bound.{Bound}
-use Rattle.numbers.specs.declared.bound.Bound.the-variants.{Untold}
 use Rattle.geom.specs.Points.{points}
 use Rattle.geom.specs.declared.region.Region.{Region}
 use Rattle.raster.specs.declared.grid.Grid.{Grid}

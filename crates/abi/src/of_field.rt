@@ -1,5 +1,4 @@
 // The functions of `field`. The Setup is made of its numbers; what the field does not read is 0.
-ghost use mathlib.Core.Path.{_≡_};
 ghost use Rattle.field.specs.Round.{Ready, Done};
 ghost use Rattle.abi.specs.Raster.{grid};
 ghost use Rattle.abi.specs.Setup.{sensing};

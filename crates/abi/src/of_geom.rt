@@ -1,6 +1,6 @@
 // The functions of `geom`. A vector goes in as two floats and comes back in two places of a lent slice.
 ghost use mathlib.Core.Path.{_≡_};
-ghost use Prim.Native.Nat.{_+_, _*_, _≤_, _<_};
+ghost use Prim.Native.Nat.{_+_, _*_, _≤_};
 ghost use lib.ListN.{length};
 ghost use Rattle.geom.specs.Vec.{v2, dotOf, crossOf, perpOf, distanceOf, lengthOf, normalizedOf, fromAngle, lerpOf};
 ghost use Rattle.geom.specs.Region.{Held, Grown, pointInLoop, containsOf, boundsOf, crossingsOf, vertexCount};

@@ -1,21 +1,20 @@
 -- The laws of chains: each turn uses one edge more, so that a chain ends and its points are no more than the edges it used. Assumes nothing.
 use mathlib.Core.Path.{_≡_, refl, sym, ap, _∙_, subst}
-use mathlib.Core.Bool.{Bool, true, false, cond, true≢false}
-use mathlib.Core.List.{List, [], _∷_, _++_, map}
-use Prim.Native.Nat.{ℕ, zero, suc, _+_, _-_, _*_, _≤_, _<_}
+use mathlib.Core.Bool.{false}
+use mathlib.Core.List.{List, [], _∷_}
+use Prim.Native.Nat.{ℕ, zero, suc, _+_, _-_, _<_}
 use native.Mathlib.Omega.{arith}
-use lib.ListN.{length, getD, set, replicate, length-set, length-append, length-replicate, getD-replicate}
-use lib.Dec.{eqb, ltb}
+use lib.ListN.{length, getD, length-set, length-append, length-replicate, getD-replicate}
+use lib.Dec.{eqb}
 use Rattle.loops.specs.Each.{Each, over}
 use Rattle.loops.specs.Loop.{turns, loop, Run, on, out, turn}
 use Rattle.loops.specs.Cells.{ones}
-use Rattle.loops.proofs.Cases.{by-cases, by-test, never}
+use Rattle.loops.proofs.Cases.{by-test, never}
 use Rattle.loops.proofs.CellLaws.{ones-le, ones-mark}
 use Rattle.loops.proofs.SetLaws.{set-either}
 use Rattle.loops.proofs.EachLaws.{over-keeps}
-use Rattle.geom.specs.declared.vec2.Vec2.{Vec2}
 use Rattle.contours.specs.declared.square.Segment.{Segment}
-use Rattle.contours.specs.Chain.{nothing, Tables, joined, blank, tablesOf, Leads, Walk, Chain, walk, ended, stepTo, follow, chainOf, walkFrom, chainFrom, near, thinned, deduped}
+use Rattle.contours.specs.Chain.{nothing, Tables, joined, blank, tablesOf, Leads, Walk, Chain, walk, stepTo, follow, walkFrom}
 
 -- ---- the tables
 

@@ -1,8 +1,8 @@
 -- Two passes over the segments give the pieces: open chains, then loops. Assumes nothing.
-use mathlib.Core.Path.{_≡_, refl, sym, ap, _∙_, subst}
-use mathlib.Core.Bool.{Bool, true, false}
+use mathlib.Core.Path.{_≡_, sym, ap, _∙_, subst}
+use mathlib.Core.Bool.{true, false}
 use mathlib.Core.List.{List, []}
-use Prim.Native.Nat.{ℕ, _+_, _*_, _≤_, _<_}
+use Prim.Native.Nat.{ℕ, _*_, _≤_}
 use native.Mathlib.Omega.{arith}
 use lib.ListN.{length}
 use lib.Ieee.{Float}
@@ -14,9 +14,9 @@ use Rattle.raster.specs.declared.grid.Grid.{Grid}
 use Rattle.contours.specs.Edge.{Between}
 use Rattle.contours.specs.Square.{Joins}
 use Rattle.contours.specs.March.{segmentsOf, march}
-use Rattle.contours.specs.Piece.{Piece, piecesAt}
+use Rattle.contours.specs.Piece.{piecesAt}
 use Rattle.contours.specs.Chain.{Tables, tables, tablesOf, Leads, edge, pointAt, Chains, chains, chainAll, piecesOf, contoursOf}
-use Rattle.contours.specs.Traced.{segmentsIn, nextIn, rowsIn, piecesIn, segmentsAt, Packed, Tracing, Traced, Sized, Tabled, Contoured}
+use Rattle.contours.specs.Traced.{nextIn, piecesIn, segmentsAt, Tracing, Traced, Tabled, Contoured}
 use Rattle.contours.specs.declared.chain.Count.{Count}
 use Rattle.contours.specs.declared.square.Segment.{Segment}
 use Rattle.contours.proofs.JoinLaws.{march-joins}

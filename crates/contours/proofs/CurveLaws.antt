@@ -1,6 +1,6 @@
 -- What smoothing keeps: a short piece, the number of points or fewer, and the ends of an open piece. Assumes nothing.
 use mathlib.Core.Path.{_≡_, refl, sym, ap, _∙_, subst}
-use mathlib.Core.Bool.{Bool, true, false, _||_}
+use mathlib.Core.Bool.{Bool, true, false}
 use mathlib.Core.List.{List, [], _∷_, _++_}
 use mathlib.Core.Logic.{_⊎_, inl, inr}
 use Prim.Native.Nat.{ℕ, _+_, _-_, _*_, _%_, _≤_, _<_}
@@ -12,7 +12,7 @@ use lib.Dec.{eqb, ltb}
 use lib.Ieee.{Float, nan}
 use borrow.Author.Tests.{ltb-true, ltb-false, eq-eqb, lt-ltb, eqb-true, eqb-false}
 use Rattle.loops.specs.Loop.{loop}
-use Rattle.loops.proofs.Cases.{by-cases, never}
+use Rattle.loops.proofs.Cases.{by-cases, never, or-right}
 use Rattle.loops.proofs.LoopLaws.{loop-keeps}
 use Rattle.geom.specs.Region.{before, after}
 use Rattle.geom.specs.Vec.{v2, distanceOf}
@@ -62,10 +62,6 @@ held-kept closed ps k h =
     loop-keeps (averageAt closed (length ps) ps) 0 (λ (q : List Vec2). pointAt q k ≡ pointAt ps k) (length ps)
     (λ i q a b e. by-cases (heldAt closed (length ps) i) (λ t. rw t e)
     (λ t. rw t (getD-set-other q i k _ (v2 nan nan) (λ z. mathlib.Core.Bool.true≢false (sym h ∙ ap (heldAt closed (length ps)) z ∙ t)) ∙ e))) ps refl
-
-or-right : (a b : Bool) → b ≡ true → a || b ≡ true
-or-right true b e = refl
-or-right false b e = e
 
 -- ps and qs have the same number of points and the same ends
 pub record SameEnds (qs ps : List Vec2) : Type 0 where

@@ -1,14 +1,15 @@
 -- The loop that follows a chain: what its slices hold after each turn, and at its end. Assumes nothing.
 use mathlib.Core.Path.{_≡_, refl, sym, ap, _∙_, subst}
-use mathlib.Core.Bool.{Bool, true, false, cond}
+use mathlib.Core.Bool.{Bool, true, false}
 use mathlib.Core.List.{List, [], _∷_, _++_, map}
-use Prim.Native.Nat.{ℕ, zero, suc, _+_, _*_, _≤_, _<_}
+use Prim.Native.Nat.{ℕ, _+_, _*_, _≤_, _<_}
 use native.Mathlib.Omega.{arith}
 use lib.ListN.{length, getD, set, length-set, length-map}
 use lib.Dec.{eqb}
 use lib.Ieee.{Float}
 use borrow.Author.Tests.{eq-eqb, ne-eqb}
-use Rattle.loops.specs.Loop.{loop, Run, on, out, turn}
+use Rattle.loops.proofs.EachLaws.{map-more}
+use Rattle.loops.specs.Loop.{loop, on, out, turn}
 use Rattle.loops.specs.Cells.{ones}
 use Rattle.loops.proofs.LoopLaws.{Going, going-none, going-on, going-out}
 use Rattle.loops.proofs.Cases.{by-test}
@@ -17,7 +18,7 @@ use Rattle.geom.specs.Region.{vertexOf}
 use Rattle.geom.specs.Points.{points, putPoint}
 use Rattle.geom.specs.declared.vec2.Vec2.{Vec2}
 use Rattle.geom.proofs.PointLaws.{points-length, points-more, put-there, put-length}
-use Rattle.contours.specs.Chain.{nothing, Leads, Walk, Chain, walk, ended, stepTo, follow, chainOf, walkFrom, chainFrom, near, thinned, deduped, lastOf, lastKept, keptOf, putKept, Trailing, Followed}
+use Rattle.contours.specs.Chain.{nothing, Walk, Chain, walk, ended, stepTo, follow, chainOf, walkFrom, chainFrom, near, thinned, deduped, lastOf, keptOf, putKept, Trailing, Followed}
 use Rattle.contours.specs.declared.chain.Trail.{Trail}
 use Rattle.contours.proofs.ChainLaws.{Walked, walked-none, walked-more, walked-room}
 use Rattle.contours.proofs.DedupLaws.{deduped-few, trailing-more}
@@ -31,10 +32,6 @@ pub record Following (at : ℕ → Vec2) (next marks₀ : List ℕ) (pts₀ : Li
   pub trailing : Trailing first (at s) (map at ids) t pts
   pub before : (j : ℕ) → j < first → vertexOf pts j ≡ vertexOf pts₀ j
   pub long : length pts ≡ length pts₀
-
-map-more : (at : ℕ → Vec2) (l : List ℕ) (n : ℕ) → map at (l ++ (n ∷ [])) ≡ map at l ++ (at n ∷ [])
-map-more at [] n = refl
-map-more at (x ∷ l) n = ap (λ (r : List Vec2). at x ∷ r) (map-more at l n)
 
 kept-length : (first : ℕ) (p : Vec2) (t : Trail) (w : List Float) → length (putKept first p t w) ≡ length w
 unfolding putKept

@@ -2,15 +2,14 @@
 use mathlib.Core.Path.{_≡_, sym, subst}
 use mathlib.Core.Bool.{Bool, true, false, cond, _||_}
 use mathlib.Core.List.{List, []}
-use Prim.Native.Nat.{ℕ, zero, suc, _+_, _-_, _*_, _≤_, _<_}
+use Prim.Native.Nat.{ℕ, _+_, _-_, _*_, _≤_, _<_}
 use native.Mathlib.Omega.{arith}
-use native.Mathlib.Nat.{add-mul, suc-mul, mul-left-comm, mul-le-mul-right}
+use native.Mathlib.Nat.{add-mul, mul-left-comm, mul-le-mul-right}
 use lib.Dec.{eqb}
 use lib.ListN.{length, length-append}
 use lib.Ieee.{Float}
 use Rattle.loops.proofs.EachLaws.{each-more}
 use Rattle.loops.specs.Each.{Each}
-use Rattle.loops.specs.Loop.{turns, loop}
 use Rattle.loops.proofs.LoopLaws.{loop-keeps, loop-few}
 use Rattle.raster.specs.Grid.{Sides, numbered}
 use Rattle.raster.specs.declared.grid.Grid.{Grid}

@@ -1,17 +1,17 @@
 -- Over all chains, an edge is used exactly if it is followed, and it is followed once. Assumes nothing.
 use mathlib.Core.Path.{_≡_, refl, sym, ap, _∙_, subst}
-use mathlib.Core.Bool.{Bool, true, false, cond, _||_}
+use mathlib.Core.Bool.{Bool, true, false, _||_}
 use mathlib.Core.List.{List, [], _∷_, _++_}
 use Prim.Native.Nat.{ℕ, zero, suc, _<_}
 use native.Mathlib.Omega.{arith}
-use lib.ListN.{length, getD, set, replicate, length-set, length-replicate}
+use lib.ListN.{length, getD, replicate, length-set, length-replicate}
 use lib.Dec.{eqb}
 use Rattle.loops.proofs.EachLaws.{over-keeps, each-all}
 use Rattle.loops.proofs.SetLaws.{set-either}
 use Rattle.loops.specs.Each.{over, Each}
 use Rattle.loops.proofs.Cases.{by-cases, by-test}
 use Rattle.geom.specs.declared.vec2.Vec2.{Vec2}
-use Rattle.contours.specs.Chain.{nothing, Leads, Chain, chainFrom, Chains, chained, startsAt, startAt, chainAll, Tables, tables, joined, blank, tablesOf}
+use Rattle.contours.specs.Chain.{nothing, Leads, chainFrom, Chains, chained, startsAt, startAt, chainAll, Tables, tables, joined, blank, tablesOf}
 use Rattle.contours.specs.Traced.{Below}
 use Rattle.contours.specs.Used.{used, has, Once, Owns, Edges, edges, followedAt, followedAll, followedOf}
 use Rattle.contours.specs.declared.square.Segment.{Segment}

@@ -1,9 +1,9 @@
 -- The parts of the words: a next edge that is written changes its part alone, and segments are read from theirs. Assumes nothing.
 use mathlib.Core.Path.{_≡_, refl, sym, ap, _∙_, subst}
-use mathlib.Core.List.{List, [], _∷_, _++_}
+use mathlib.Core.List.{List}
 use Prim.Native.Nat.{ℕ, suc, _+_, _-_, _*_, _≤_, _<_}
 use native.Mathlib.Omega.{arith}
-use lib.ListN.{length, getD, set, take, drop, length-set}
+use lib.ListN.{getD, set, drop, length-set}
 use lib.Seq.{getD-take, getD-drop}
 use Rattle.loops.proofs.EachLaws.{over-more}
 use Rattle.loops.specs.Each.{Each, over}
@@ -11,7 +11,7 @@ use Rattle.loops.specs.Regions.{within}
 use Rattle.loops.proofs.SetLaws.{set-within, set-behind}
 use Rattle.contours.specs.Square.{segment}
 use Rattle.contours.specs.March.{segmentAt, segmentsOf}
-use Rattle.contours.specs.Chain.{Tables, tables, joined, edge}
+use Rattle.contours.specs.Chain.{tables, joined, edge}
 use Rattle.contours.specs.Traced.{segmentsIn, nextIn, segmentsAt, Joined}
 use Rattle.contours.specs.declared.square.Segment.{Segment}
 use Rattle.contours.proofs.SegmentLaws.{each-segment}

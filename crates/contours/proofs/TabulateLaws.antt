@@ -1,7 +1,7 @@
 -- The words step by step: the segments in front, the next edges cleared, the tables filled. Assumes nothing.
 use mathlib.Core.Path.{_≡_, refl, sym, ap, _∙_, subst}
-use mathlib.Core.List.{List, [], _∷_, _++_}
-use Prim.Native.Nat.{ℕ, _+_, _-_, _*_, _≤_, _<_}
+use mathlib.Core.List.{List}
+use Prim.Native.Nat.{ℕ, _-_, _*_}
 use native.Mathlib.Omega.{arith}
 use lib.ListN.{length, replicate, length-replicate}
 use lib.Ieee.{Float}
@@ -10,11 +10,11 @@ use Rattle.loops.proofs.EachLaws.{each-all}
 use Rattle.loops.specs.Each.{Each, over}
 use Rattle.loops.specs.Regions.{Fits, within, put}
 use Rattle.loops.proofs.RegionLaws.{region-long, put-is, put-back, put-before, put-length}
-use Rattle.raster.specs.Grid.{Over, Sides}
+use Rattle.raster.specs.Grid.{Over}
 use Rattle.raster.specs.declared.grid.Grid.{Grid}
 use Rattle.contours.specs.Square.{Joins}
 use Rattle.contours.specs.March.{segmentsOf, march, Gathered}
-use Rattle.contours.specs.Chain.{nothing, Tables, tables, joined, blank, tablesOf}
+use Rattle.contours.specs.Chain.{nothing, tables, joined, tablesOf}
 use Rattle.contours.specs.Traced.{segmentsIn, nextIn, segmentsAt, Below, Listed, Joined, Sized, Tabled}
 use Rattle.contours.specs.declared.square.Segment.{Segment}
 use Rattle.contours.proofs.JoinLaws.{march-joins, joins-below}

@@ -2,25 +2,22 @@
 use mathlib.Core.Path.{_≡_, refl, sym, ap, _∙_, subst}
 use mathlib.Core.Bool.{Bool}
 use mathlib.Core.List.{List, [], _∷_, _++_, map}
-use Prim.Native.Nat.{ℕ, zero, suc, _+_, _-_, _*_, _≤_, _<_}
+use Prim.Native.Nat.{ℕ, suc, _+_, _-_, _*_, _≤_, _<_}
 use native.Mathlib.Omega.{arith}
-use lib.ListN.{length, getD}
-use lib.Dec.{eqb, ltb}
+use lib.ListN.{length}
+use lib.Dec.{ltb}
 use lib.Ieee.{Float}
 use borrow.Author.Tests.{ltb-true, ltb-false, lt-ltb, le-ltb}
 use Rattle.loops.specs.Regions.{Fits, within, put}
-use Rattle.loops.specs.Cells.{ones}
 use Rattle.loops.proofs.RegionLaws.{region-long, put-back, put-before, put-length}
 use Rattle.loops.proofs.CellLaws.{ones-le}
 use Rattle.loops.proofs.Cases.{by-cases}
-use Rattle.geom.specs.Region.{vertexOf}
 use Rattle.geom.specs.Points.{points}
 use Rattle.geom.specs.declared.vec2.Vec2.{Vec2}
 use Rattle.geom.proofs.PointLaws.{points-length, points-same}
 use Rattle.raster.specs.declared.grid.Grid.{Grid}
-use Rattle.contours.specs.Edge.{Between}
 use Rattle.contours.specs.Piece.{Piece, row, rowAt, putRow, pieceOf, piecesAt}
-use Rattle.contours.specs.Chain.{Leads, edge, Chain, chainFrom, deduped, Chains, chains, pushed, chained, Chaining, Followed}
+use Rattle.contours.specs.Chain.{Chain, chainFrom, deduped, Chains, chains, pushed, chained, Chaining, Followed}
 use Rattle.contours.specs.Traced.{segmentsIn, nextIn, rowsIn, Packed, Tracing, Startable, piecesIn, Traced}
 use Rattle.contours.specs.declared.chain.Count.{Count}
 use Rattle.contours.specs.declared.piece.Row.{Row}

@@ -1,39 +1,25 @@
 -- Each used edge belongs to one chain, and a chain's edges follow one another. Assumes nothing.
-use mathlib.Core.Path.{_≡_, refl, sym, ap, _∙_, subst}
-use mathlib.Core.Bool.{Bool, true, false, cond, _||_}
+use mathlib.Core.Path.{_≡_, refl, sym, ap, _∙_}
+use mathlib.Core.Bool.{Bool, true, false, _||_}
 use mathlib.Core.List.{List, [], _∷_, _++_}
-use Prim.Native.Nat.{ℕ, zero, suc, _+_, _*_, _≤_, _<_}
+use Prim.Native.Nat.{ℕ, _+_, _<_}
 use native.Mathlib.Omega.{arith}
-use lib.ListN.{length, getD, set, replicate, length-set, length-replicate}
+use lib.ListN.{length, getD, set, length-set}
 use lib.Seq.{getD-set-same, getD-set-other}
 use lib.Dec.{eqb}
-use borrow.Author.Tests.{eqb-true, eqb-false, eq-eqb, ne-eqb}
-use Rattle.loops.proofs.EachLaws.{over-keeps, each-all}
-use Rattle.loops.proofs.SetLaws.{set-either}
-use Rattle.loops.specs.Each.{over, Each}
-use Rattle.loops.specs.Loop.{loop, Run, on, out, turn}
+use borrow.Author.Tests.{eqb-true, eqb-false, eq-eqb}
+use Rattle.loops.specs.Each.{Each}
+use Rattle.loops.specs.Loop.{Run, on, out, turn}
 use Rattle.loops.proofs.LoopLaws.{loop-keeps}
-use Rattle.loops.proofs.Cases.{by-cases, by-test, never}
-use Rattle.contours.specs.Chain.{nothing, Leads, Walk, Chain, walk, ended, stepTo, follow, chainOf, walkFrom, chainFrom, startsAt, Tables, tables, joined, blank, tablesOf}
-use Rattle.contours.specs.Traced.{Below}
-use Rattle.contours.specs.Used.{used, has, Once, Follows, Owns, Edges, edges, followedAt, followedAll, followedOf}
-use Rattle.contours.specs.declared.square.Segment.{Segment}
-use Rattle.contours.proofs.ChainLaws.{tables-lead}
-use Rattle.contours.proofs.TourLaws.{unused-start}
+use Rattle.loops.proofs.Cases.{by-cases, by-test, never, neither, or-false}
+use Rattle.contours.specs.Chain.{nothing, Leads, Walk, Chain, walk, stepTo, follow, chainOf, walkFrom, chainFrom}
+use Rattle.contours.specs.Used.{used, has, Once, Follows, Owns, edges}
 
 -- ---- lists of numbers
 
 or-assoc : (a b c : Bool) → (a || b) || c ≡ a || (b || c)
 or-assoc true b c = refl
 or-assoc false b c = refl
-
-or-false : (a : Bool) → a || false ≡ a
-or-false true = refl
-or-false false = refl
-
-or-right : (a b : Bool) → a || b ≡ false → b ≡ false
-or-right true b e = never (sym e)
-or-right false b e = e
 
 pub has-append : (x : ℕ) (l m : List ℕ) → has x (l ++ m) ≡ has x l || has x m
 unfolding has
@@ -46,7 +32,7 @@ unfolding Once has
 once-append [] m a b d = b
 once-append (x ∷ l) m a b d = (
   has-append x l m ∙ by-cases (has x m) (λ t. never (sym (d x t) ∙ ap (λ (c : Bool). c || has x l) (eq-eqb x x refl))) (λ t. ap (λ (c : Bool). c || has x m) (a .0) ∙ t),
-  once-append l m (a .1) b (λ y t. or-right (eqb y x) (has y l) (d y t)),
+  once-append l m (a .1) b (λ y t. neither (eqb y x) (has y l) (d y t) .1),
 )
 
 follows-more : (next : List ℕ) (s : ℕ) (l : List ℕ) (cur n : ℕ) → Follows next s l cur → getD next cur 0 ≡ n → Follows next s (l ++ (n ∷ [])) n
@@ -111,9 +97,9 @@ module _ (next : List ℕ) (s : ℕ) (marks₀ : List ℕ) (z : length next ≡ 
           last = n;
           edges = ap (λ (l : List ℕ). l ++ (n ∷ [])) (o .edges);
           path = follows-more next s (o .later) (o .last) n (o .path) (ap (λ (i : ℕ). getD next i 0) (h .last) ∙ e);
-          once = once-append (w .ids) (n ∷ []) (o .once) (refl, tt) (λ x t. ap (λ (i : ℕ). has i (w .ids)) (eqb-true x n (sym (or-false (eqb x n)) ∙ t)) ∙ or-right (used marks₀ n) (has n (w .ids)) new);
+          once = once-append (w .ids) (n ∷ []) (o .once) (refl, tt) (λ x t. ap (λ (i : ℕ). has i (w .ids)) (eqb-true x n (sym (or-false (eqb x n)) ∙ t)) ∙ neither (used marks₀ n) (has n (w .ids)) new .1);
           fresh = λ i t. by-cases (has i (w .ids)) (o .fresh i)
-              (λ f. ap (used marks₀) (eqb-true i n (sym (or-false (eqb i n)) ∙ sym (ap (λ (c : Bool). c || (eqb i n || false)) f) ∙ sym (has-append i (w .ids) (n ∷ [])) ∙ t)) ∙ or-left (used marks₀ n) (has n (w .ids)) new);
+              (λ f. ap (used marks₀) (eqb-true i n (sym (or-false (eqb i n)) ∙ sym (ap (λ (c : Bool). c || (eqb i n || false)) f) ∙ sym (has-append i (w .ids) (n ∷ [])) ∙ t)) ∙ neither (used marks₀ n) (has n (w .ids)) new .0);
           taken = λ i. used-set (w .marks) n i (omega (arith, h .long))
               ∙ ap (λ (c : Bool). c || eqb i n) (o .taken i)
               ∙ or-assoc (used marks₀ i) (has i (w .ids)) (eqb i n)
@@ -121,10 +107,6 @@ module _ (next : List ℕ) (s : ℕ) (marks₀ : List ℕ) (z : length next ≡ 
         };
         last = refl;
       }
-    where
-      or-left : (a b : Bool) → a || b ≡ false → a ≡ false
-      or-left true b e = never (sym e)
-      or-left false b e = refl
 
   owned-follow : (i : ℕ) (w : Walk) → Walking w → Owned (follow next s i w)
   unfolding follow

@@ -9,13 +9,12 @@ use lib.Ieee.{Float}
 use Rattle.loops.specs.Each.{Each, over}
 use Rattle.loops.specs.Regions.{within}
 use Rattle.loops.specs.Cells.{ones}
-use Rattle.geom.specs.declared.vec2.Vec2.{Vec2}
 use Rattle.raster.specs.declared.grid.Grid.{Grid}
 use Rattle.contours.specs.Edge.{Between}
 use Rattle.contours.specs.March.{segmentsOf}
 use Rattle.contours.specs.declared.square.Segment.{Segment}
 use Rattle.contours.specs.Piece.{Piece, rowAt, piecesAt}
-use Rattle.contours.specs.Chain.{tables, joined, tablesOf, Leads, edge, Chains, chains, chained}
+use Rattle.contours.specs.Chain.{tables, joined, tablesOf, Leads, edge, Chains, chains}
 use Rattle.contours.specs.declared.chain.Count.{Count}
 
 -- the parts for n cells

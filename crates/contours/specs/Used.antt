@@ -6,7 +6,7 @@ use Prim.Native.Nat.{ℕ}
 use lib.ListN.{getD}
 use lib.Dec.{eqb}
 use Rattle.loops.specs.Each.{over}
-use Rattle.contours.specs.Chain.{Chain, chainFrom, startsAt, tablesOf}
+use Rattle.contours.specs.Chain.{chainFrom, startsAt, tablesOf}
 use Rattle.contours.specs.declared.square.Segment.{Segment}
 
 abbrev pub used : List ℕ → ℕ → Bool

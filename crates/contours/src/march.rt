@@ -5,7 +5,7 @@ ghost use Prim.Native.Nat.{_+_, _*_, _<_, _≤_};
 ghost use lib.ListN.{length};
 ghost use Rattle.raster.specs.Grid.{Over};
 ghost use Rattle.contours.specs.Square.{InGrid, Joins, directedOf};
-ghost use Rattle.contours.specs.March.{segmentAt, segmentsOf, putSegment, marchCode, marchSquare, marchRow, march, Gathered};
+ghost use Rattle.contours.specs.March.{segmentsOf, putSegment, marchCode, marchSquare, marchRow, march, Gathered};
 use super::edge::EdgeNo;
 use super::square::Saddle;
 use super::square::Segment;
@@ -21,17 +21,6 @@ use super::square::square_at;
 use raster::grid::Grid;
 
 // Segment k, read and written.
-pub fn read(segs: &[u32], k: usize) -> Segment
-    requires { ⌜ 2 * k + 1 < length (now segs) ⌝ }
-    ensures { λ s. ⌜ s ≡ segmentAt (now (segs .entry)) k ⌝ }
-{
-    let i = 2 * k;
-    Segment {
-        from: EdgeNo(segs[i]),
-        to: EdgeNo(segs[i + 1]),
-    }
-}
-
 fn put(segs: &mut [u32], k: usize, s: Segment)
     requires { ⌜ 2 * k + 1 < length (now segs) ⌝ }
     ensures { λ _. ⌜ now (segs .exit) ≡ putSegment k s (now (segs .entry)) ⌝ }

@@ -1,7 +1,6 @@
 // The tables by edge number: which edge follows an edge, and which edges a segment leads into. The lent
 // words have three parts for n cells: segments (4 n), next edges (2 n), rows of pieces (3 n).
-ghost use mathlib.Core.Path.{_≡_};
-ghost use Prim.Native.Nat.{_*_, _≤_};
+ghost use Prim.Native.Nat.{_*_};
 ghost use lib.ListN.{length};
 ghost use Rattle.raster.specs.Grid.{Over};
 ghost use Rattle.contours.specs.March.{march};

@@ -1,5 +1,4 @@
 // The curves where a field of the cells crosses a level (`contours` of the Rust).
-ghost use mathlib.Core.Path.{_≡_};
 ghost use Prim.Native.Nat.{_*_, _≤_};
 ghost use lib.ListN.{length};
 ghost use Rattle.raster.specs.Grid.{Over};

@@ -173,3 +173,19 @@ room nx ny n z h = omega (arith, one-row nx ny (z .row))
 pub transform-at : (mark : ℕ) (m : List ℕ) (nx ny : ℕ) (s : List ℕ) (k : ℕ) → k < ny * nx → getD (transformOf mark m nx ny s) k 0 ≡ nearest mark m nx (at (k % nx) (k / nx)) ny
 unfolding transformOf squaresOf
 transform-at mark m nx ny s k h = List·getD-append (squaresOf mark m nx ny) _ 0 k (omega (arith, listed-long (λ k. nearest mark m nx (at (k % nx) (k / nx)) ny) 0 (ny * nx))) ∙ listed-at _ 0 (ny * nx) k h
+
+-- ---- lengths
+
+pub squares-long : (mark : ℕ) (m : List ℕ) (nx ny : ℕ) → length (squaresOf mark m nx ny) ≡ ny * nx
+unfolding squaresOf
+squares-long mark m nx ny = listed-long _ 0 (ny * nx)
+
+pub transform-long : (mark : ℕ) (m : List ℕ) (nx ny : ℕ) (s t : List ℕ) → ny * nx + 3 * nx ≤ length s → t ≡ transformOf mark m nx ny s → length t ≡ length s
+unfolding transformOf
+transform-long mark m nx ny s t h e =
+    ap length e ∙ length-append (squaresOf mark m nx ny) (replicate (3 * nx) 0 ++ drop (ny * nx + 3 * nx) s)
+    ∙ (let a = length-append {A = ℕ} (replicate (3 * nx) 0) (drop (ny * nx + 3 * nx) s) in
+    let b = length-replicate {A = ℕ} (3 * nx) 0 in
+    let c = length-drop (ny * nx + 3 * nx) s in
+    let d = squares-long mark m nx ny in
+    omega (arith, a, b, c, d))

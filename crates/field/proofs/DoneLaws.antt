@@ -4,14 +4,14 @@ use mathlib.Core.Bool.{Bool, true, false}
 use mathlib.Core.List.{List, _++_}
 use Prim.Native.Nat.{ℕ, _+_, _-_, _*_, _≤_, _<_}
 use native.Mathlib.Omega.{arith}
-use lib.ListN.{length, take, drop, replicate, length-append, length-drop, length-replicate}
+use lib.ListN.{length, take, drop, replicate, length-replicate}
 use lib.Seq.{take-at, take-take}
 use lib.Ieee.{Float, nan}
 use borrow.Rule.Slice.PartMut.{putMid}
 use Rattle.loops.specs.Regions.{Fits, within, put}
-use Rattle.loops.proofs.RegionLaws.{region-long, put-back, put-before, put-after}
+use Rattle.loops.proofs.RegionLaws.{region-long, put-back, put-before, put-after, put-again}
 use Rattle.distance.specs.Nearest.{squaresOf, transformOf}
-use Rattle.distance.proofs.NearestLaws.{listed-long}
+use Rattle.distance.proofs.NearestLaws.{squares-long, transform-long}
 use Rattle.raster.specs.Grid.{Sides}
 use Rattle.raster.specs.Contact.{samplesOf, Rim}
 use Rattle.raster.specs.declared.grid.Grid.{Grid}
@@ -23,7 +23,7 @@ use Rattle.field.specs.Gauge.{Sensing}
 use Rattle.field.specs.Round.{squaresPut, stockPut, nearPut, Begun, Ready, rowsIn, Rowed, roundOf, Done}
 use Rattle.field.specs.declared.gauge.Gauge.{Gauge}
 use Rattle.field.proofs.FieldLaws.{field-length}
-use Rattle.field.proofs.RoundLaws.{part-is, part-long, run-long, back-is, put-again, wide-cells}
+use Rattle.field.proofs.RoundLaws.{part-is, part-long, run-long, back-is, wide-cells}
 
 -- ---- the rows, over parts
 
@@ -90,24 +90,14 @@ module _ (g : Grid) (a c : ℕ) (b u : List ℕ) (l : c + (g .ny * g .nx + 3 * g
   squares-fit : Fits c (c + (g .ny * g .nx + 3 * g .nx)) u
   squares-fit = record { start = omega arith; end = l }
 
-  squares-long : length (squaresOf 1 (within a (a + g .ny * g .nx) b) (g .nx) (g .ny)) ≡ g .ny * g .nx
-  unfolding squaresOf
-  squares-long = listed-long _ 0 (g .ny * g .nx)
-
-  transform-long : (t : List ℕ) → length t ≡ g .ny * g .nx + 3 * g .nx → length (transformOf 1 (within a (a + g .ny * g .nx) b) (g .nx) (g .ny) t) ≡ g .ny * g .nx + 3 * g .nx
-  unfolding transformOf
-  transform-long t e =
-      let q = squaresOf 1 (within a (a + g .ny * g .nx) b) (g .nx) (g .ny) in
-      let z : List ℕ = replicate (3 * g .nx) 0 in
-      let r = drop (g .ny * g .nx + 3 * g .nx) t in
-      omega (arith, length-append q (z ++ r), length-append z r, squares-long, length-replicate {A = ℕ} (3 * g .nx) 0, length-drop (g .ny * g .nx + 3 * g .nx) t)
-
   written-long : length (transformOf 1 (within a (a + g .ny * g .nx) b) (g .nx) (g .ny) (within c (c + (g .ny * g .nx + 3 * g .nx)) u)) ≡ c + (g .ny * g .nx + 3 * g .nx) - c
   unfolding within
   written-long =
       let e = g .ny * g .nx + 3 * g .nx in
       let k : c + e - c ≡ e = omega arith in
-      transform-long (within c (c + e) u) (region-long c (c + e) u squares-fit ∙ k) ∙ sym k
+      let part = within c (c + e) u in
+      let l : length part ≡ c + e - c = region-long c (c + e) u squares-fit in
+      transform-long 1 (within a (a + g .ny * g .nx) b) (g .nx) (g .ny) part _ (omega arith) refl ∙ l
 
   -- what stands before them, and behind the scratch, is as it was
   pub squares-before : (i e : ℕ) → i ≤ e → e ≤ c → within i e (squaresPut g a c b u) ≡ within i e u
@@ -133,7 +123,7 @@ module _ (g : Grid) (a c : ℕ) (b u : List ℕ) (l : c + (g .ny * g .nx + 3 * g
       ap (λ (k : ℕ). take k (drop c v)) (let z : c + m - c ≡ m = omega arith in z)
       ∙ sym (take-take m (c + e - c) (drop c v) (omega arith))
       ∙ ap (take m) (put-back c (c + e) u x squares-fit written-long)
-      ∙ take-at (squaresOf 1 p (g .nx) (g .ny)) (replicate (3 * g .nx) 0 ++ drop e (within c (c + e) u)) m squares-long
+      ∙ take-at (squaresOf 1 p (g .nx) (g .ny)) (replicate (3 * g .nx) 0 ++ drop e (within c (c + e) u)) m (squares-long 1 p (g .nx) (g .ny))
 
 -- of those to stock, and of those to cells that were cut
 module _ (g : Grid) (h : Sides g) (b u : List ℕ) where

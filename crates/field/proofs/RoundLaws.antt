@@ -1,19 +1,19 @@
 -- Parts of the workspace that are lent and come back, and the field of a round from its steps. Assumes nothing.
 use mathlib.Core.Path.{_≡_, refl, sym, ap, _∙_, subst}
 use mathlib.Core.Bool.{Bool, true, false}
-use mathlib.Core.List.{List, _++_}
+use mathlib.Core.List.{List}
 use Prim.Native.Nat.{ℕ, _+_, _-_, _*_, _≤_, _<_}
 use native.Mathlib.Omega.{arith}
 use native.Mathlib.Nat.{mul-le-mul-right}
-use lib.ListN.{length, getD, set, take, drop, replicate, length-take, length-set}
-use lib.Seq.{take-at, drop-at, drop-append-add, ext-getD, getD-set-same, getD-set-other}
+use lib.ListN.{length, getD, set, take, drop, replicate, length-set}
+use lib.Seq.{ext-getD, getD-set-same, getD-set-other}
 use lib.Dec.{eqb, ltb}
 use lib.Ieee.{Float, nan}
 use borrow.Author.Tests.{eqb-true, eqb-false, ltb-true, ltb-false}
 use borrow.Rule.Slice.PartMut.{putMid}
 use Rattle.loops.proofs.LoopLaws.{loop-both}
 use Rattle.loops.specs.Loop.{loop}
-use Rattle.loops.specs.Regions.{Fits, within, put}
+use Rattle.loops.specs.Regions.{within, put}
 use Rattle.loops.proofs.Cases.{by-cases}
 use Rattle.loops.proofs.RegionLaws.{region-long, put-is}
 use Rattle.distance.specs.Nearest.{listed, transformOf}
@@ -77,18 +77,6 @@ module _ {A : Type 0} where
   back-is k n a e w r p q h =
       put-is a e w (record { start = omega arith; end = omega arith }) r r refl
       ∙ ap (λ (z : ℕ). put a z r w) q ∙ ap (λ (z : ℕ). put z (z + n) r w) p
-
-  -- what is put twice
-  pub put-again : (a e : ℕ) (w x y : List A) → Fits a e w → length y ≡ e - a → put a e x (put a e y w) ≡ put a e x w
-  unfolding put
-  put-again a e w x y h l =
-      let s = h .start in
-      let m = h .end in
-      let front : length (take a w) ≡ a = simp length-take (omega arith) in
-      ap (λ (t : List A). t ++ (x ++ drop e (take a w ++ (y ++ drop e w)))) (take-at (take a w) (y ++ drop e w) a front)
-      ∙ ap (λ (t : List A). take a w ++ (x ++ t))
-      (ap (λ (k : ℕ). drop k (take a w ++ (y ++ drop e w))) (let z : e ≡ length (take a w) + (e - a) = omega arith in z)
-      ∙ drop-append-add (take a w) (y ++ drop e w) (e - a) ∙ drop-at y (drop e w) (e - a) l)
 
 -- ---- the steps of a round
 

@@ -10,14 +10,13 @@ use lib.ListN.{getD, set, replicate, getD-replicate}
 use lib.Seq.{getD-set-other}
 use borrow.Author.Tests.{eqb-false}
 use Rattle.loops.specs.Cells.{ones}
-use Rattle.loops.proofs.Cases.{never}
+use Rattle.loops.proofs.Cases.{never, neither}
 use Rattle.loops.proofs.CellLaws.{ones-set}
 use Rattle.geom.specs.declared.vec2.Vec2.{Vec2}
 use Rattle.links.specs.declared.lattice.Lattice.{Lattice}
 use Rattle.links.specs.Lattice.{nodes, centreOf, Laid}
 use Rattle.links.specs.Search.{noNode, seekOf, Befores}
 use Rattle.links.specs.Path.{nodeNo, backOf}
-use Rattle.links.proofs.LatticeLaws.{neither}
 use Rattle.links.proofs.SeekLaws.{sound-seek}
 
 ones-all : (n : ℕ) → ones (replicate n 1) ≡ n

@@ -11,7 +11,7 @@ use lib.Ieee.{Float, nan, inf, fin, binary64, ofBits, up, down, sub, div, lt, le
 use lib.Ieee.Fits.{down-pos}
 use lib.Ieee.Positive.{le→cross, above-of-le}
 use borrow.Author.Tests.{lt-ltb, le-ltb, ltb-false, leb-true, ne-eqb}
-use Rattle.loops.proofs.Cases.{by-test, both, never}
+use Rattle.loops.proofs.Cases.{by-test, both, never, neither}
 use Rattle.numbers.specs.Whole.{above, roundOf}
 use Rattle.numbers.specs.Order.{maxOf}
 use Rattle.numbers.proofs.GuardLaws.{max-ge-right}
@@ -246,10 +246,6 @@ beside-is l v d x y r X Y R = rw (← X, ← Y) R
 IsAt : Lattice → Neighbour → Type 0
 IsAt l Off = Unit {0}
 IsAt l (At v) = IsNode l v
-
-pub neither : (a b : Bool) → a || b ≡ false → (a ≡ false) × (b ≡ false)
-neither true b e = never (sym e)
-neither false b e = (refl, e)
 
 on-node : (l : Lattice) (a b : ℕ) → IsAt l (onLattice l a b)
 unfolding onLattice IsAt

@@ -1,12 +1,12 @@
 -- The whole link: each part of the workspace is lent and comes back, and what they hold makes the way. Assumes nothing.
 use mathlib.Core.Path.{_≡_, refl, sym, ap, _∙_, subst}
 use mathlib.Core.Bool.{Bool, true, false, cond}
-use mathlib.Core.List.{List, [], _∷_, _++_}
+use mathlib.Core.List.{List, [], _∷_}
 use Prim.Native.Nat.{ℕ, _+_, _-_, _*_, _≤_, _<_}
 use native.Mathlib.Omega.{arith}
 use native.Mathlib.Nat.{mul-le-mul-right, mul-pos}
 use lib.Dec.{eqb, ltb}
-use lib.ListN.{length, getD, take, drop, replicate, length-append, length-replicate, length-drop}
+use lib.ListN.{length, getD, take, drop}
 use lib.Seq.{take-take}
 use lib.Ieee.{Float, nan}
 use borrow.Rule.Slice.PartMut.{putMid}
@@ -18,9 +18,9 @@ use Rattle.loops.proofs.RegionLaws.{region-long}
 use Rattle.geom.specs.Points.{putPoint, points}
 use Rattle.geom.specs.declared.vec2.Vec2.{Vec2}
 use Rattle.distance.specs.Least as least
-use Rattle.distance.specs.Nearest.{squaresOf, transformOf}
+use Rattle.distance.specs.Nearest.{squaresOf}
 use Rattle.distance.specs.Rooted.{distanceOf, distanceTransform}
-use Rattle.distance.proofs.NearestLaws.{listed-long, listed-at, squares-are}
+use Rattle.distance.proofs.NearestLaws.{listed-at, squares-are}
 use Rattle.raster.specs.Grid.{Over, cellOf}
 use Rattle.raster.specs.Contact.{samplesOf, Rim}
 use Rattle.raster.specs.declared.grid.Grid.{Grid}
@@ -88,20 +88,6 @@ module _ (l : Lattice) (L : Laid l) (m : List ℕ) (M : cells l ≤ length m) (u
         let h : Fits (5 * cells l) (15 * cells l) u₁ = record { start = omega arith; end = transformed-long } in
         let all : Only 0 (15 * cells l) u₁ u₂ = only-wider (5 * cells l) (15 * cells l) u₁ u₂ h Y 0 (15 * cells l) (omega arith) (omega arith) transformed-long in
         (X ∙ ap (seekOf l allowed) transformed-squares, (only-more 0 (15 * cells l) u (record { start = omega arith; end = A }) u₁ first u₂ all, Z))
-
-squares-long : (m : List ℕ) (nx ny : ℕ) → length (squaresOf 1 m nx ny) ≡ ny * nx
-unfolding squaresOf
-squares-long m nx ny = listed-long _ 0 (ny * nx)
-
-pub transform-long : (m : List ℕ) (nx ny : ℕ) (s t : List ℕ) → ny * nx + 3 * nx ≤ length s → t ≡ transformOf 1 m nx ny s → length t ≡ length s
-unfolding transformOf
-transform-long m nx ny s t h e =
-    ap length e ∙ length-append (squaresOf 1 m nx ny) (replicate (3 * nx) 0 ++ drop (ny * nx + 3 * nx) s)
-    ∙ (let a = length-append {A = ℕ} (replicate (3 * nx) 0) (drop (ny * nx + 3 * nx) s) in
-    let b = length-replicate {A = ℕ} (3 * nx) 0 in
-    let c = length-drop (ny * nx + 3 * nx) s in
-    let d = squares-long m nx ny in
-    omega (arith, a, b, c, d))
 
 -- a node's distance by its square is that of the Rust's `distance_transform`
 pub square-distance : (m : List ℕ) (nx ny k : ℕ) → k < ny * nx → distanceOf (getD (squaresOf 1 m nx ny) k 0) ≡ getD (distanceTransform 1 m nx ny) k nan

@@ -10,7 +10,6 @@ use Rattle.loops.proofs.Cases.{by-cases, never}
 use Rattle.numbers.specs.Order.{rankOf, totalOf}
 use Rattle.numbers.specs.declared.order.Ordering.{Ordering}
 use Rattle.numbers.proofs.OrderLaws.{rank-one}
-use Rattle.links.specs.declared.NodeNo.{NodeNo}
 use Rattle.links.specs.declared.heap.Entry.{Entry}
 use Rattle.links.specs.Heap.{beforeOf, settled}
 use Rattle.links.proofs.RankLaws.{rank-lt}

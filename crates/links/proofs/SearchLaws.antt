@@ -1,12 +1,12 @@
 -- The state of the search in slices: an entry more, an entry less, a node improved. Assumes nothing.
 use mathlib.Core.Path.{_≡_, refl, sym, ap, _∙_, subst}
 use mathlib.Core.Bool.{true, false}
-use mathlib.Core.List.{List, [], _∷_, _++_, append-assoc}
+use mathlib.Core.List.{List, [], _∷_}
 use Prim.Native.Nat.{ℕ, zero, suc, _+_, _-_, _*_, _≤_, _<_}
 use native.Mathlib.Omega.{arith}
 use lib.Dec.{T}
-use lib.ListN.{length, getD, set, take, drop, replicate, length-set, length-replicate, length-append, length-drop, replicate-append-replicate}
-use lib.Seq.{set-at, drop-cons, take-set-lt, drop-set-lt, getD-take, getD-drop}
+use lib.ListN.{length, getD, set, take, drop, length-set}
+use lib.Seq.{take-set-lt, drop-set-lt, getD-take, getD-drop}
 use lib.Ieee.{Float, nan, binary64, fits, add, lt}
 use borrow.Rule.Slice.PartMut.{putMid}
 use Rattle.loops.specs.Regions.{Fits, within}

@@ -10,7 +10,6 @@ use lib.Ieee.{Float, nan}
 use Rattle.numbers.specs.Order.{totalOf}
 use Rattle.numbers.specs.declared.order.Ordering.{Ordering}
 use Rattle.numbers.specs.declared.order.Ordering.the-variants.{Less, Equal, Greater}
-use Rattle.links.specs.declared.NodeNo.{NodeNo}
 use Rattle.links.specs.declared.heap.Entry.{Entry}
 
 -- by how two estimates compare, and on equal ones by how the nodes do

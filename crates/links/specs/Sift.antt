@@ -1,9 +1,8 @@
 -- How an entry finds its place in the heap: a hole moves up from the end, or down from the root, until the entry fits in. Definitions only.
 use mathlib.Core.Path.{_≡_}
-use mathlib.Core.Bool.{Bool, true, false}
+use mathlib.Core.Bool.{Bool, false}
 use mathlib.Core.List.{List}
-use Prim.Native.Nat.{ℕ, _+_, _-_, _/_, _≤_, _<_, max}
-use lib.ListN.{length}
+use Prim.Native.Nat.{ℕ, _+_, _-_, _≤_, _<_, max}
 use lib.Ieee.{Float}
 use Rattle.links.specs.declared.heap.Entry.{Entry}
 use Rattle.links.specs.Heap.{beforeOf, one, countTo, parent, Ordered, entryAt, Kept}

@@ -5,7 +5,7 @@ ghost use lib.ListN.{length};
 ghost use Rattle.raster.specs.Grid.{Over};
 ghost use Rattle.raster.specs.Contact.{samplesOf, Rim};
 ghost use Rattle.setup.specs.Place.{Walls};
-ghost use Rattle.links.specs.Straight.{stepsOf, pointOf, clearAt, sampleClear, samplesClear, linkClear};
+ghost use Rattle.links.specs.Straight.{stepsOf, pointOf, clearAt, samplesClear, linkClear};
 use geom::vec2::Vec2;
 use raster::grid::float_of;
 use setup::Setup;

@@ -1,6 +1,6 @@
 -- A list gone over grows at its end, and what holds of each of its elements. Assumes nothing.
-use mathlib.Core.Path.{_≡_, refl}
-use mathlib.Core.List.{List, [], _∷_, _++_}
+use mathlib.Core.Path.{_≡_, refl, ap}
+use mathlib.Core.List.{List, [], _∷_, _++_, map}
 use Rattle.loops.specs.Each.{over, Each}
 
 module _ {A : Type 0} (P : A → Type 0) where
@@ -32,3 +32,8 @@ module _ {A S : Type 0} (f : A → S → S) where
   unfolding over Each
   over-keeps Q P h [] e s p = p
   over-keeps Q P h (x ∷ l) e s p = over-keeps Q P h l (e .1) (f x s) (h x s (e .0) p)
+
+-- a list that is mapped grows at its end too
+pub map-more : {A B : Type 0} (f : A → B) (l : List A) (x : A) → map f (l ++ (x ∷ [])) ≡ map f l ++ (f x ∷ [])
+map-more f [] x = refl
+map-more {B = B} f (y ∷ l) x = ap (λ (r : List B). f y ∷ r) (map-more f l x)

@@ -69,3 +69,15 @@ module _ {A : Type 0} (a e : ℕ) (w r : List A) (h : Fits a e w) (l : length r 
           ap (drop b) (sym (take-append-drop e w))
           ∙ ap (λ (k : ℕ). drop k (take e w ++ drop e w)) (let z : b ≡ length (take e w) + (b - e) = omega (arith, f) in z)
           ∙ drop-append-add (take e w) (drop e w) (b - e)
+
+-- what is put where something was put stands in its place
+pub put-again : {A : Type 0} (a e : ℕ) (w x y : List A) → Fits a e w → length y ≡ e - a → put a e x (put a e y w) ≡ put a e x w
+unfolding put
+put-again {A} a e w x y h l =
+    let s = h .start in
+    let m = h .end in
+    let front : length (take a w) ≡ a = simp length-take (omega arith) in
+    ap (λ (t : List A). t ++ (x ++ drop e (take a w ++ (y ++ drop e w)))) (take-at (take a w) (y ++ drop e w) a front)
+    ∙ ap (λ (t : List A). take a w ++ (x ++ t))
+    (ap (λ (k : ℕ). drop k (take a w ++ (y ++ drop e w))) (let z : e ≡ length (take a w) + (e - a) = omega arith in z)
+    ∙ drop-append-add (take a w) (y ++ drop e w) (e - a) ∙ drop-at y (drop e w) (e - a) l)

@@ -6,14 +6,14 @@ use mathlib.Core.Option.{Option, none, some}
 use Prim.Native.Nat.{ℕ, zero, suc, _+_, _-_, _*_, _/_, _%_, _≤_, _<_}
 use native.Mathlib.Omega.{arith}
 use lib.ListN.{length, getD, take, drop, set, length-append, length-drop, take-append-drop, List·getD-append}
-use lib.Seq.{length-take-le, getD-take, getD-drop, getD-append-add, getD-at, drop-cons, set-at, take-at, drop-at, ext-getD}
+use lib.Seq.{length-take-le, getD-take, getD-drop, getD-append-add, getD-at, drop-cons, set-at, ext-getD}
 use lib.Dec.{ltb, eqb}
 use lib.Ieee.{Float, nan}
 use borrow.Author.Tests.{lt-ltb, le-ltb, ltb-true, ltb-false, eqb-true, eqb-false}
 use borrow.Rule.Slice.PartMut.{putMid}
 use Rattle.loops.specs.Regions.{Fits, within, put}
 use Rattle.loops.proofs.Cases.{by-cases}
-use Rattle.loops.proofs.RegionLaws.{region-long, put-is, put-back, put-before, put-length}
+use Rattle.loops.proofs.RegionLaws.{region-long, put-is, put-back, put-before, put-length, put-again}
 use Rattle.geom.specs.Vec.{v2}
 use Rattle.geom.specs.Region.{vertexOf}
 use Rattle.geom.specs.Points.{points}
@@ -291,17 +291,6 @@ module _ (at m : ℕ) (w : List Float) (h : at + 2 * m ≤ length w) where
 
 -- ---- walked, then bent
 
--- what is put where something was put stands in its place
-put-again : (a e : ℕ) (w r q : List Float) → Fits a e w → length r ≡ e - a → put a e q (put a e r w) ≡ put a e q w
-unfolding put
-put-again a e w r q f l =
-    let b = f .start in
-    let c = f .end in
-    let h : length (take a w) ≡ a = length-take-le a w (omega arith) in
-    let k : length (take a w ++ r) ≡ e = omega (arith, h, length-append (take a w) r) in
-    ap (λ (t : List Float). t ++ (q ++ drop e (take a w ++ (r ++ drop e w)))) (take-at (take a w) (r ++ drop e w) a h)
-    ∙ ap (λ (t : List Float). take a w ++ (q ++ t)) (ap (drop e) (sym (append-assoc (take a w) r (drop e w))) ∙ drop-at (take a w ++ r) (drop e w) e k)
-
 module _ (cells from m start n at : ℕ) (w : List Float) (A : Ahead from m start n at (length w)) (C : cells ≤ at)
     (w₁ : List Float) (W : w₁ ≡ put at (at + 2 * n) (flat (walkOf (pointsIn from m w) start n)) w) where
   abbrev trod : List Vec2
@@ -332,7 +321,7 @@ module _ (cells from m start n at : ℕ) (w : List Float) (A : Ahead from m star
   lay-put : (b : Option (List Vec2)) → laid at n b w₁ ≡ put at (at + 2 * n) (flat (bentOr trod b)) w
   unfolding laid bentOr
   lay-put none = W
-  lay-put (some l) = ap (put at (at + 2 * n) (flat l)) W ∙ put-again at (at + 2 * n) w (flat trod) (flat l) trod-fits trod-long
+  lay-put (some l) = ap (put at (at + 2 * n) (flat l)) W ∙ put-again at (at + 2 * n) w (flat l) (flat trod) trod-fits trod-long
 
   pub lay-walls : (s : Setup) (vs : List Float) (lens : List ℕ) → Walls s (within 0 cells w) vs lens → Walls s (within 0 cells w₁) vs lens
   lay-walls s vs lens h = subst (λ (v : List Float). Walls s v vs lens) (sym lay-wall) h

@@ -9,6 +9,7 @@ use lib.Seq.{getD-at}
 use lib.Dec.{ltb, leb}
 use lib.Ieee.{Float, binary64, ofBits, toUnsigned, add, mul, div}
 use borrow.Author.Tests.{ltb-true, ltb-false, lt-ltb, le-ltb, le-leb, lt-leb}
+use Rattle.loops.proofs.EachLaws.{map-more}
 use Rattle.loops.specs.Loop.{loop}
 use Rattle.loops.proofs.Cases.{by-cases}
 use Rattle.geom.specs.Vec.{f0, distanceOf}
@@ -42,11 +43,7 @@ module _ (ts : List Float) (first : ℕ) where
   pub spots-are : (n : ℕ) → spotsFrom ts first n ≡ map (λ (p : Point). p .at) (pointsFrom ts first n)
   unfolding spotsFrom
   spots-are zero = refl
-  spots-are (suc n) = ap (λ (l : List Vec2). l ++ (spotAt ts (first + n) ∷ [])) (spots-are n) ∙ sym (map-append (pointsFrom ts first n) (pointAt ts (first + n)))
-    where
-      map-append : (l : List Point) (q : Point) → map (λ (p : Point). p .at) (l ++ (q ∷ [])) ≡ map (λ (p : Point). p .at) l ++ (q .at ∷ [])
-      map-append [] q = refl
-      map-append (p ∷ l) q = ap (λ (r : List Vec2). p .at ∷ r) (map-append l q)
+  spots-are (suc n) = ap (λ (l : List Vec2). l ++ (spotAt ts (first + n) ∷ [])) (spots-are n) ∙ sym (map-more (λ (p : Point). p .at) (pointsFrom ts first n) (pointAt ts (first + n)))
 
   module _ (n : ℕ) where
     pub spots-leg : (k : ℕ) (t : Float) (a b : Vec2) (d : Float) → 1 ≤ k → k < n → a ≡ spotAt ts (first + k - 1) → b ≡ spotAt ts (first + k) → d ≡ distanceOf a b → add binary64 t d ≡ addLeg (spotsFrom ts first n) k t

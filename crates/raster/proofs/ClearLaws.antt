@@ -12,7 +12,7 @@ use lib.Dec.{eqb, ltb, leb}
 use lib.Ieee.{Float}
 use borrow.Author.Tests.{eqb-true, eqb-false, ltb-true, ltb-false, leb-true, leb-false}
 use Rattle.loops.specs.Loop.{any}
-use Rattle.loops.proofs.Cases.{by-cases, by-test, both}
+use Rattle.loops.proofs.Cases.{by-cases, by-test, both, or-left, or-right, or-false}
 use Rattle.loops.proofs.CellLaws.{below-length}
 use Rattle.geom.specs.declared.vec2.Vec2.{Vec2}
 use Rattle.raster.specs.Grid.{Sides}
@@ -26,7 +26,7 @@ use Rattle.raster.specs.declared.disk.Span.{Span}
 use Rattle.raster.specs.declared.disk.Span.the-variants.{Empty, Cols}
 use Rattle.raster.proofs.RowLaws.{InRow, disk-in, crescent-in, rows-below}
 use Rattle.raster.proofs.SweepLaws.{disk-image, crescent-image}
-use Rattle.raster.proofs.PaintLaws.{or-left, or-right, or-none, any-at, any-none, inSpan, Has, span-has, span-lacks, span-beyond, pick, Changes, changes-then, changes-loop, changes-span}
+use Rattle.raster.proofs.PaintLaws.{or-none, any-at, any-none, inSpan, Has, span-has, span-lacks, span-beyond, pick, Changes, changes-then, changes-loop, changes-span}
 
 -- ---- one map for all ways of clearing
 
@@ -75,10 +75,6 @@ module _ (n : ℕ) where
 -- a row of one span or of two
 abbrev inRow : Grid → Crescent → ℕ → ℕ → Bool
 inRow g p j k = inSpan (j * g .nx) (p .left) k || inSpan (j * g .nx) (p .right) k
-
-or-false : (b : Bool) → b || false ≡ b
-or-false true = refl
-or-false false = refl
 
 module _ (n : ℕ) (g : Grid) where
   clears-disk-at : (c : Vec2) (r : Float) (j : ℕ) (s : List ℕ) → Map s → Changes off n (inRow g (two (diskRow g c r j) Empty) j) s (diskAt wipeCell g c r j s)

@@ -8,7 +8,7 @@ use lib.ListN.{getD}
 use lib.Dec.{eqb}
 use borrow.Author.Tests.{eqb-true, eqb-false, eq-eqb, ne-eqb}
 use Rattle.loops.specs.Loop.{turns, loop, orAt, any}
-use Rattle.loops.proofs.Cases.{by-cases}
+use Rattle.loops.proofs.Cases.{by-cases, or-left, or-right}
 use Rattle.loops.proofs.CellLaws.{same-row, row-below}
 use Rattle.raster.specs.Sweep.{overSpan}
 use Rattle.raster.specs.declared.disk.Span.{Span}
@@ -16,13 +16,6 @@ use Rattle.raster.specs.declared.disk.Span.the-variants.{Empty, Cols}
 use Rattle.raster.proofs.RowLaws.{InRow}
 
 -- ---- one of the numbers from a on below e
-
-pub or-left : (a b : Bool) → a ≡ true → a || b ≡ true
-or-left a b e = rw e
-
-pub or-right : (a b : Bool) → b ≡ true → a || b ≡ true
-or-right true b e = refl
-or-right false b e = e
 
 pub or-none : (a b : Bool) → a ≡ false → b ≡ false → a || b ≡ false
 or-none a b e d = rw (e, d)

@@ -1,6 +1,6 @@
 // The stock map: counted, intersected, cleared of a disk.
 ghost use mathlib.Core.Path.{_≡_};
-ghost use Prim.Native.Nat.{_≤_, _<_};
+ghost use Prim.Native.Nat.{_≤_};
 ghost use lib.ListN.{length};
 ghost use Rattle.loops.specs.Loop.{loop};
 ghost use Rattle.loops.specs.Cells.{ones};

@@ -1,11 +1,11 @@
 -- The guard is below the limit and the target at most the guard, for every engagement that questions 2 and 12 accept. And the arms of `samples_of`.
 -- Assumes nothing.
-use mathlib.Core.Path.{_≡_, refl, sym, ap, _∙_, subst}
+use mathlib.Core.Path.{_≡_, refl, ap, _∙_}
 use mathlib.Core.Bool.{true, false}
 use Prim.Native.Nat.{ℕ, _≤_, _<_, min, max}
 use native.Mathlib.Omega.{arith}
 use lib.Dec.{T}
-use lib.Ieee.{Float, nan, inf, fin, binary64, ofBits, sub, mul, div, lt, le, eq, isNan, fits, toUnsigned}
+use lib.Ieee.{Float, nan, inf, fin, binary64, ofBits, mul, div, lt, le, eq, isNan, fits, toUnsigned}
 use lib.Ieee.Fits.{mul-fits, sub-fits}
 use lib.Ieee.Positive.{positive}
 use lib.Ieee.Scale.{finite}
@@ -17,7 +17,7 @@ use Rattle.floats.proofs.ShareLaws.{Normal, normal-of, normal-positive}
 use Rattle.numbers.specs.Circle.{pi, radiansOf}
 use Rattle.numbers.specs.Whole.{ceilOf}
 use Rattle.numbers.proofs.GuardLaws.{guard-lt, guard-above, guard-fits, target-le}
-use Rattle.setup.specs.Limits.{f2, f4, guardOf, targetOf, samplesOf}
+use Rattle.setup.specs.Limits.{f4, guardOf, targetOf, samplesOf}
 
 -- ---- how many samples
 

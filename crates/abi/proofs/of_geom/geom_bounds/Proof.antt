@@ -1,7 +1,7 @@
 -- `abi::of_geom::geom_bounds` meets its contract. Assumes nothing.
-use mathlib.Core.Path.{_≡_, refl, ap}
+use mathlib.Core.Path.{ap}
 use native.Mathlib.Omega.{arith}
-use lib.ListN.{length, length-set}
+use lib.ListN.{length-set}
 use Rattle.geom.specs.declared.region.Corners.{Corners}
 use Rattle.abi.specs.Geom.{put4}
 use borrow.Author.Needs.{needs}

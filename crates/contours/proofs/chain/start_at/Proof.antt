@@ -1,9 +1,8 @@
 -- `contours::chain::start_at` meets its contract. Assumes nothing.
-use mathlib.Core.Path.{_≡_, sym, ap, _∙_}
-use mathlib.Core.Bool.{Bool, true, false}
+use mathlib.Core.Path.{sym, _∙_}
 use native.Mathlib.Omega.{arith}
 use lib.ListN.{getD}
-use Rattle.contours.specs.Chain.{edge, pointAt}
+use Rattle.contours.specs.Chain.{pointAt}
 use Rattle.contours.proofs.EdgeLaws.{edge-below}
 use Rattle.contours.proofs.TourLaws.{traced-start, traced-pass, unused-start}
 use borrow.Author.Needs.{needs}

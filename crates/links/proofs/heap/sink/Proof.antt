@@ -1,12 +1,11 @@
 -- `links::heap::sink` meets its contract. The invariant: the hole has come down to k. The measure is what is left of n. Assumes nothing.
-use mathlib.Core.Path.{_≡_, sym, ap, _∙_}
+use mathlib.Core.Path.{sym, _∙_}
 use Prim.Native.Nat.{_-_}
 use native.Mathlib.Omega.{arith}
 use borrow.Author.Needs.{needs}
 use borrow.Author.Tests.{not-true, not-false}
 use Rattle.links.specs.Heap.{entryAt, Kept}
 use Rattle.links.specs.Sift.{Sinking}
-use Rattle.links.proofs.OrderLaws.{not-before}
 use Rattle.links.proofs.SiftLaws.{stores, sinking-none, sinking-more, sinking-stop, kept-none, kept-more}
 use Rattle.links.proofs.heap.sink.Statement.{statement}
 use Rattle.links.proofs.heap.sink.Tie as tie

@@ -1,5 +1,6 @@
 -- `links::link::search` meets its contract. Assumes nothing.
-use Rattle.links.proofs.LinkLaws.{transform-asks, transform-long, transformed-long, search-is}
+use Rattle.distance.proofs.NearestLaws.{transform-long}
+use Rattle.links.proofs.LinkLaws.{transform-asks, transformed-long, search-is}
 use borrow.Author.Needs.{needs}
 use Rattle.links.proofs.link.search.Statement.{statement}
 use Rattle.links.proofs.link.search.Tie as tie
@@ -26,7 +27,7 @@ limit-of-requires : tie.Need-limit-of-requires
 limit-of-requires c κs = search needs
 
 seek-requires : tie.Need-seek-requires
-seek-requires c κs = let s = c .before .before .before .before .before .before .before .before .before .before .before .before in let K = transform-long _ _ _ _ _ (transform-asks _ (s .pre .0) (s .args .map .now) (s .pre .1 .0 .long) (s .args .u .now) (s .pre .1 .1 .1 .0) .1 .1) (c .before .before .before .before .before .transform .ensures .1) in (s .pre .0, (c .before .before .limit-of .ensures, (s .pre .1 .1 .0, (transformed-long _ (s .pre .0) (s .args .map .now) (s .pre .1 .0 .long) (s .args .u .now) (s .pre .1 .1 .1 .0) _ (c .before .before .before .before .before .transform .ensures .0) K, s .pre .1 .1 .1 .1))))
+seek-requires c κs = let s = c .before .before .before .before .before .before .before .before .before .before .before .before in let K = transform-long 1 _ _ _ _ _ (transform-asks _ (s .pre .0) (s .args .map .now) (s .pre .1 .0 .long) (s .args .u .now) (s .pre .1 .1 .1 .0) .1 .1) (c .before .before .before .before .before .transform .ensures .1) in (s .pre .0, (c .before .before .limit-of .ensures, (s .pre .1 .1 .0, (transformed-long _ (s .pre .0) (s .args .map .now) (s .pre .1 .0 .long) (s .args .u .now) (s .pre .1 .1 .1 .0) _ (c .before .before .before .before .before .transform .ensures .0) K, s .pre .1 .1 .1 .1))))
 
 same-length : tie.Need-same-length
 same-length c = search needs
@@ -35,7 +36,7 @@ same-length-2 : tie.Need-same-length-2
 same-length-2 c = search needs
 
 returns : tie.Need-returns
-returns c = let s = c .before .before .before .before .before .before .before .before .before .before .before .before .before .before .before .before .before in let K = transform-long _ _ _ _ _ (transform-asks _ (s .pre .0) (s .args .map .now) (s .pre .1 .0 .long) (s .args .u .now) (s .pre .1 .1 .1 .0) .1 .1) (c .before .before .before .before .before .before .before .before .before .before .transform .ensures .1) in let r = c .before .before .before .before .seek .ensures in search-is _ (s .pre .0) (s .args .map .now) (s .pre .1 .0 .long) (s .args .u .now) (s .pre .1 .1 .1 .0) _ (c .before .before .before .before .before .before .before .before .before .before .transform .ensures .0) K _ _ _ _ _ (r .0) (r .1 .0) (r .1 .1)
+returns c = let s = c .before .before .before .before .before .before .before .before .before .before .before .before .before .before .before .before .before in let K = transform-long 1 _ _ _ _ _ (transform-asks _ (s .pre .0) (s .args .map .now) (s .pre .1 .0 .long) (s .args .u .now) (s .pre .1 .1 .1 .0) .1 .1) (c .before .before .before .before .before .before .before .before .before .before .transform .ensures .1) in let r = c .before .before .before .before .seek .ensures in search-is _ (s .pre .0) (s .args .map .now) (s .pre .1 .0 .long) (s .args .u .now) (s .pre .1 .1 .1 .0) _ (c .before .before .before .before .before .before .before .before .before .before .transform .ensures .0) K _ _ _ _ _ (r .0) (r .1 .0) (r .1 .1)
 
 pub search-spec : {M : Type 1} → statement M
 search-spec =

@@ -3,7 +3,6 @@ use mathlib.Core.Path.{_≡_, ap, _∙_}
 use Prim.Native.Nat.{_-_, _≤_}
 use native.Mathlib.Omega.{arith}
 use lib.ListN.{length, set}
-use borrow.Author.Needs.{needs}
 use Rattle.loops.proofs.FillLaws.{filled, filled-none, filled-more, filled-length, filled-end}
 use Rattle.setup.proofs.fill.fill_words.Statement.{statement}
 use Rattle.setup.proofs.fill.fill_words.Tie as tie
