@@ -12,7 +12,7 @@ use Rattle.raster.specs.declared.grid.Grid.{Grid}
 use Rattle.raster.proofs.LogLaws.{Kept, kept-none, kept-cell, keep-after}
 use Rattle.events.specs.Chunk.{Point, Job}
 use Rattle.events.specs.Events.{cutsFrom, cutsOf, passLogged, PointChecked, LaterChecked}
-use Rattle.events.specs.Read.{spotAt, pointAt, crescentBy, passBy}
+use Rattle.events.specs.Read.{spotAt, pointAt, pointsFrom, crescentBy, passBy}
 
 -- ---- one more point
 
@@ -49,11 +49,6 @@ pub going-pass : (g : Grid) (r : Float) (ts : List Float) (first a e : ℕ) (s t
 unfolding crescentBy
 going-pass g r ts first a e s t k h i =
     subst (Kept s) (sym (i .is)) (loop-keeps (crescentBy g r ts first) a (Kept s) k (λ n u b c x. keep-after (Kept s) (kept-cell s h) g _ _ r u x) s (kept-none s))
-
--- the points of n triples from number `first` on
-abbrev pub pointsFrom : List Float → ℕ → ℕ → List Point
-pointsFrom ts first zero = []
-pointsFrom ts first (suc n) = pointsFrom ts first n ++ (pointAt ts (first + n) ∷ [])
 
 module _ (j : Job) (ts : List Float) (first : ℕ) where
   last-from : (n : ℕ) → lastAt (spotAt ts first) (pointsFrom ts (first + 1) n) ≡ spotAt ts (first + (1 + n) - 1)

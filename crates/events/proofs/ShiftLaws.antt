@@ -76,7 +76,7 @@ drop-set3 l i a b c =
     ∙ drop-set-lt (i + 3) (set l i a) (i + 1) b (omega arith)
     ∙ drop-set-lt (i + 3) l i a (omega arith)
 
-set3-long : (l : List Float) (i : ℕ) (a b c : Float) → length (set3 i a b c l) ≡ length l
+pub set3-long : {A : Type 0} (l : List A) (i : ℕ) (a b c : A) → length (set3 i a b c l) ≡ length l
 set3-long l i a b c = length-set (set (set l i a) (i + 1) b) (i + 2) c ∙ length-set (set l i a) (i + 1) b ∙ length-set l i a
 
 put-all : (ts : List Triple) (k : ℕ) (l : List Float) → (k + length ts) * 3 ≤ length l → putAll k ts l ≡ take (k * 3) l ++ (flatTriples ts ++ drop ((k + length ts) * 3) l)
@@ -99,10 +99,10 @@ put-all (t ∷ ts) k l h =
 -- moving the n triples of the pass on trial up and putting the new ones before them is the gap that `trial-moves` of `LentLaws` asks for
 module _ (k n : ℕ) (new : List Triple) (l : List Float) (fits : k * 3 + n * 3 + length new * 3 ≤ length l) where
   -- the slice with room made
-  abbrev big : List Float
+  abbrev pub big : List Float
   big = shiftUp (k * 3) (n * 3) (length new * 3) l
 
-  big-long : length big ≡ length l
+  pub big-long : length big ≡ length l
   big-long = sym (ap length (shift-is (k * 3) (n * 3) (length new * 3) l fits)) ∙ shift-long (k * 3) (n * 3) (length new * 3) l fits (n * 3) (omega arith)
 
   front-long : length (take (k * 3 + length new * 3) l) ≡ k * 3 + length new * 3

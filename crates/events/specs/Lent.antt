@@ -150,3 +150,8 @@ shiftUp low n d l = take (low + d) l ++ (drop low (take (low + n) l) ++ drop (lo
 unfoldable pub putAll : ℕ → List Triple → List Float → List Float
 putAll k [] l = l
 putAll k (t ∷ ts) l = putAll (k + 1) ts (setTriple k t l)
+
+-- rows put one after another, from number n on
+unfoldable pub putRows : ℕ → List Row → List ℕ → List ℕ
+putRows n [] l = l
+putRows n (r ∷ rs) l = putRows (n + 1) rs (setRow n r l)

@@ -1,7 +1,7 @@
 -- One row read from the lent slices, by number, and a pass cleared from its triples. Definitions only.
 use Prim.Native.Nat.{ℕ, zero, suc, _+_, _-_, _*_, _/_}
 use mathlib.Core.Bool.{cond}
-use mathlib.Core.List.{List, [], map}
+use mathlib.Core.List.{List, [], _∷_, _++_, map}
 use mathlib.Core.Option.{Option, none, some}
 use lib.ListN.{length, take, drop, getD}
 use lib.Dec.{eqb, ltb}
@@ -56,6 +56,11 @@ listFrom rows ts k (suc n) = push (meant ts (readAt rows ts k)) (listFrom rows t
 
 abbrev pub pointAt : List Float → ℕ → Point
 pointAt ts n = record { at = spotAt ts n; contact = valueAt ts n }
+
+-- the points of n triples from number `first` on
+abbrev pub pointsFrom : List Float → ℕ → ℕ → List Point
+pointsFrom ts first zero = []
+pointsFrom ts first (suc n) = pointsFrom ts first n ++ (pointAt ts (first + n) ∷ [])
 
 -- the crescent to point i of the pass
 unfoldable pub crescentBy : Grid → Float → List Float → ℕ → ℕ → Stock → Stock

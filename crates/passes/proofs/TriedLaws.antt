@@ -26,12 +26,12 @@ use Rattle.setup.proofs.LimitLaws.{target-at-most}
 use Rattle.events.specs.Chunk.{Point, Chunk, Job}
 use Rattle.events.specs.Judges.{f1, quarter, contactOn}
 use Rattle.events.specs.Lent.{tripleAt, allTriples, Holds, HoldsTrial, setTriple}
-use Rattle.events.specs.Read.{pointAt}
+use Rattle.events.specs.Read.{pointAt, pointsFrom}
 use Rattle.events.specs.Replay.{removed, BeginsGood}
 use Rattle.events.specs.Events.{State, state, cutsFrom, cutsOf, passLogged, PointChecked, LaterChecked, PassChecked, Checked, tried, step}
 use Rattle.events.proofs.LentLaws.{trial-none, trial-more}
 use Rattle.events.proofs.TrialLaws.{pass-cells}
-use Rattle.events.proofs.PassLaws.{lastAt, last-more, laterLogged, later-more, checked-more, pointsFrom}
+use Rattle.events.proofs.PassLaws.{lastAt, last-more, laterLogged, later-more, checked-more}
 use Rattle.passes.specs.declared.shifts.Shift.the-variants.{At}
 use Rattle.passes.specs.Shifts.{maxShift}
 use Rattle.passes.specs.Simulate.{nowhere, Pass, ps, tr, spent, filled, stepOf, advanceOf, legStep, ended, begun, simulateOf}

@@ -16,8 +16,7 @@ use Rattle.geom.specs.Vec.{f0, distanceOf}
 use Rattle.geom.specs.declared.vec2.Vec2.{Vec2}
 use Rattle.events.specs.Chunk.{Point}
 use Rattle.events.specs.Judges.{f1}
-use Rattle.events.specs.Read.{spotAt, pointAt}
-use Rattle.events.proofs.PassLaws.{pointsFrom}
+use Rattle.events.specs.Read.{spotAt, pointAt, pointsFrom}
 use Rattle.passes.specs.Simulate.{nowhere}
 use Rattle.passes.specs.Guide.{addLeg, totalOf}
 use Rattle.passes.specs.Worth.{c05, wantedOf, spotsFrom, worthOf}

@@ -40,7 +40,8 @@ pub fn max_shift(s: Setup) -> f64
     bite_of(s) + 4.0 * g.cell
 }
 
-fn sat_add(a: usize, b: usize) -> usize
+// A sum that stays at the end.
+pub fn sat_add(a: usize, b: usize) -> usize
     ensures { λ n. ⌜ n ≡ satAdd a b ⌝ }
 {
     if 18446744073709551615 - b < a {

@@ -1,0 +1,22 @@
+-- For the proofs of the functions: `PartLaws`, `SettleLaws`, `WayLaws`, `TriesLaws`, `RefusalLaws`, `ListingLaws`, `ListedLaws`, `KeepLaws`, `GoLaws`, `PieceLaws`.
+-- `JudgeLaws`: the judges of the job are those of the code. `TryLegal`, `TriesLegal`: the tries of a piece are legal events, `WayLegal`: so is the way to the pass
+-- that is worth it, `CutLegal`: so is the cutting of the piece. `TriesHolds`, `CutHolds`: the lent rows and triples hold what is listed. `CutTold`: demand 3 over
+-- a piece.
+pub mod PartLaws
+pub mod SettleLaws
+pub mod WayLaws
+pub mod TriesLaws
+pub mod RefusalLaws
+pub mod ListingLaws
+pub mod ListedLaws
+pub mod KeepLaws
+pub mod GoLaws
+pub mod PieceLaws
+pub mod JudgeLaws
+pub mod TryLegal
+pub mod TriesLegal
+pub mod WayLegal
+pub mod CutLegal
+pub mod TriesHolds
+pub mod CutHolds
+pub mod CutTold

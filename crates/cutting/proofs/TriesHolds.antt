@@ -1,0 +1,76 @@
+-- While a piece is tried the lent slices hold the listed chunks, and behind them the points of the last pass. Assumes nothing.
+use mathlib.Core.Path.{_≡_, refl, sym, _∙_, subst}
+use mathlib.Core.Bool.{Bool, _||_}
+use mathlib.Core.List.{List, []}
+use mathlib.Core.Option.{Option, none, some}
+use Prim.Native.Nat.{ℕ}
+use native.Mathlib.Omega.{arith}
+use lib.ListN.{length}
+use lib.Ieee.{Float}
+use Rattle.loops.specs.Loop.{Run, on, out, turn}
+use Rattle.loops.proofs.Cases.{by-test}
+use Rattle.loops.proofs.LoopLaws.{loop-keeps}
+use Rattle.geom.specs.Vec.{f0}
+use Rattle.geom.specs.declared.vec2.Vec2.{Vec2}
+use Rattle.raster.specs.Log.{st, Ready}
+use Rattle.setup.specs.Place.{freeAt}
+use Rattle.setup.specs.declared.Setup.{Setup}
+use Rattle.events.specs.Chunk.{Chunk}
+use Rattle.events.specs.Lent.{allTriples, Holds, HoldsTrial}
+use Rattle.events.specs.Read.{pointsFrom}
+use Rattle.events.proofs.LentLaws.{trial-none, trial-withdrawn}
+use Rattle.passes.specs.Simulate.{Pass, simulateOf}
+use Rattle.passes.specs.Guide.{blendOf}
+use Rattle.passes.specs.Attempt.{Outcome, judgedBy, outcomeOf, startBy}
+use Rattle.passes.specs.Tried.{Measured}
+use Rattle.passes.specs.declared.start.Place.{Place}
+use Rattle.passes.proofs.KeepLaws.{simulate-ran, ran-kept}
+use Rattle.passes.proofs.PieceLaws.{blend-tried}
+use Rattle.cutting.specs.Tries.{startsOf, startAt, guideOf, Tries, triedEnd, guideAt, tryStep, triesOf}
+
+-- the chunks cs with the points of the last pass behind them; l is the log's slice before the tries
+pub record Stands (rows : List ℕ) (cs : List Chunk) (kept : ℕ) (l : List ℕ) (c : Outcome) : Type 0 where
+  pub long : length (c .log) ≡ length l
+  pub held : HoldsTrial rows (c .out) cs (pointsFrom (c .out) kept (c .attempt .points))
+
+module _ (s : Setup) (allowed : Vec2 → Bool) (M : Measured s) (kept : ℕ) (m rows : List ℕ) (cs : List Chunk) (K : length (allTriples cs) ≡ kept) where
+  -- the job's start and limit are nothing to the triples
+  start-stands : (l : List ℕ) (o : List Float) → Ready (st m l 0) → Holds rows o cs → (pts : List Vec2) (g : Option (List Vec2)) → blendOf s allowed (freeAt s m) pts ≡ g
+      → Stands rows cs kept l (startBy s allowed g kept m l o)
+  unfolding startBy outcomeOf judgedBy
+  start-stands l o R h pts none e = record { long = refl; held = trial-none rows o cs h }
+  start-stands l o R h pts (some q) e =
+      let u : Pass = simulateOf s allowed q kept m l o in
+      let T = blend-tried s allowed [] f0 M kept m l o R pts q e in
+      record {
+        long = ran-kept s kept m l o R u (simulate-ran s allowed kept m l o q) .log-long;
+        held = subst (HoldsTrial rows (u .out) cs) (sym (T .read)) (T .held rows cs K h);
+      }
+
+  module _ (pts : List Vec2) (closed : Bool) (pos : Place) (log : List ℕ) (R : Ready (st m log 0)) where
+    abbrev Standing : Run Tries Tries → Type 0
+    Standing (on t) = Stands rows cs kept log (t .outcome)
+    Standing (out t) = Stands rows cs kept log (t .outcome)
+
+    -- the pass before counts no more
+    stand-step : (k : ℕ) (r : Run Tries Tries) → Standing r → Standing (turn (tryStep s allowed pts closed pos kept m) k r)
+    unfolding turn tryStep guideAt
+    stand-step k (out t) h = h
+    stand-step k (on t) h =
+        let c : Outcome = t .outcome in
+        let walk : List Vec2 = guideOf pts closed (startAt pts closed pos k) in
+        let g : Option (List Vec2) = blendOf s allowed (freeAt s m) walk in
+        let r : Outcome = startBy s allowed g kept m (c .log) (c .out) in
+        let ready : Ready (st m (c .log) 0) = record { room = omega (arith, R .room, h .long); small = R .small } in
+        let n = start-stands (c .log) (c .out) ready (trial-withdrawn rows (c .out) cs (pointsFrom (c .out) kept (c .attempt .points)) (h .held)) walk g refl in
+        by-test Standing (r .attempt .full || r .attempt .worth) _ _ (λ b. record { long = n .long ∙ h .long; held = n .held }) (λ b. record { long = n .long ∙ h .long; held = n .held })
+
+    stand-end : (r : Run Tries Tries) → Standing r → Stands rows cs kept log (triedEnd r .outcome)
+    unfolding triedEnd
+    stand-end (on t) h = h
+    stand-end (out t) h = h
+
+    pub tries-stand : (o : List Float) → Holds rows o cs → Stands rows cs kept log (triesOf s allowed pts closed pos kept m log o .outcome)
+    unfolding triesOf
+    tries-stand o h =
+        stand-end _ (loop-keeps (turn (tryStep s allowed pts closed pos kept m)) 0 Standing (startsOf closed) (λ i r b c g. stand-step i r g) _ (record { long = refl; held = trial-none rows o cs h }))

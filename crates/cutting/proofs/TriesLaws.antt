@@ -1,0 +1,365 @@
+-- What the tries keep, for their callers; then what the proofs of `tries` cite. Assumes nothing.
+use mathlib.Core.Path.{_≡_, refl, sym, ap, _∙_, subst}
+use mathlib.Core.Bool.{Bool, true, false, cond, _||_}
+use mathlib.Core.List.{List, [], _++_}
+use mathlib.Core.Option.{Option, none, some}
+use Prim.Native.Nat.{ℕ, _+_, _-_, _*_, _/_, _%_, _≤_, _<_}
+use native.Mathlib.Omega.{arith}
+use native.Mathlib.Nat.{mul-pos, mod-eq-of-lt}
+use lib.ListN.{length, take, drop}
+use lib.Ieee.{Float}
+use lib.Dec.{ltb}
+use borrow.Author.Tests.{ltb-false, not-true}
+use Rattle.loops.specs.Loop.{loop, Run, on, out, turn}
+use Rattle.loops.specs.Regions.{Fits, within, put}
+use Rattle.loops.proofs.Cases.{by-test, never, neither}
+use Rattle.loops.proofs.LoopLaws.{loop-keeps, Going, going-none, going-on, going-out, going-end}
+use Rattle.loops.proofs.RegionLaws.{put-back, put-length}
+use Rattle.geom.specs.Points.{points}
+use Rattle.geom.specs.declared.vec2.Vec2.{Vec2}
+use Rattle.geom.proofs.PointLaws.{points-length}
+use Rattle.raster.specs.Grid.{Over}
+use Rattle.raster.specs.Contact.{samplesOf, Rim}
+use Rattle.raster.specs.Log.{st, Ready, Logged}
+use Rattle.setup.specs.Layout.{most, guideFrom, rimFrom}
+use Rattle.setup.specs.Place.{Walls, allowedAt, freeAt}
+use Rattle.setup.specs.declared.Setup.{Setup}
+use Rattle.links.specs.Frame.{Only}
+use Rattle.links.specs.Path.{wallIn, Fitted}
+use Rattle.links.proofs.FrameLaws.{only-same, only-more, only-before, only-after, only-wider}
+use Rattle.events.specs.Events.{Event}
+use Rattle.passes.specs.Shifts.{satAdd}
+use Rattle.passes.specs.Simulate.{Pass, simulateOf}
+use Rattle.passes.specs.Guide.{totalOf, walkOf, blendOf, flat, pointsIn, bentOr}
+use Rattle.passes.specs.Worth.{wantedOf, spotsFrom, worthOf}
+use Rattle.passes.specs.Start.{nearOf, startOf}
+use Rattle.passes.specs.Attempt.{Outcome, att, oc, judgedBy, outcomeOf, startBy, Spread}
+use Rattle.passes.specs.declared.attempt.Attempt.{Attempt}
+use Rattle.passes.specs.declared.start.Place.{Place}
+use Rattle.passes.proofs.BlendLaws.{blend-length}
+use Rattle.passes.proofs.KeepLaws.{Ran, simulate-ran, ran-kept, ran-logged}
+use Rattle.passes.proofs.LayLaws.{flat-length, walk-length, part-half}
+use Rattle.passes.proofs.StartLaws.{near-below, start-below}
+use Rattle.passes.proofs.WorthLaws.{spots-length}
+use Rattle.cutting.specs.Tries.{startsOf, startAt, guideLong, guideOf, Tries, ts, worked, tryEvents, triedEnd, guideAt, tryStep, triesOf, Among}
+
+-- ---- what a try keeps, whatever it found
+
+pub record Sound (kept : ℕ) (m l : List ℕ) (o : List Float) (c : Outcome) : Type 0 where
+  pub log-long : length (c .log) ≡ length l
+  pub long : length (c .out) ≡ length o
+  pub logged : Logged (c .log) (c .attempt .removed) (length m)
+  pub room : c .attempt .full ≡ false → c .attempt .worth ≡ true → ((kept + c .attempt .points) * 3 ≤ length o) × (2 ≤ c .attempt .points)
+
+worth-two : (cell : Float) (pts : List Vec2) (removed : ℕ) → worthOf cell pts removed ≡ true → 2 ≤ length pts
+unfolding worthOf
+worth-two cell pts removed e = ltb-false (length pts) 2 (neither (ltb removed (wantedOf (totalOf pts) cell)) (ltb (length pts) 2) (not-true _ e) .1)
+
+-- the log and the triples may be those that an earlier try left
+module _ (s : Setup) (allowed : Vec2 → Bool) (kept : ℕ) (m l₀ : List ℕ) (o₀ : List Float) (R : Ready (st m l₀ 0)) (l : List ℕ) (o : List Float) (L : length l ≡ length l₀) (O : length o ≡ length o₀) where
+  ready-still : Ready (st m l 0)
+  ready-still = record { room = omega (arith, R .room); small = R .small }
+
+  sound-none : Sound kept m l₀ o₀ (oc l o (att false false 0 0 0))
+  sound-none = record {
+    log-long = L;
+    long = O;
+    logged = record { within = omega arith; cell = λ i h. absurd (let z : ⊥ = omega arith in z) };
+    room = λ f w. never w;
+  }
+
+  sound-pass : (pts : List Vec2) → Sound kept m l₀ o₀ (outcomeOf s allowed pts kept m l o)
+  unfolding outcomeOf judgedBy
+  sound-pass pts =
+      let p : Pass = simulateOf s allowed pts kept m l o in
+      let h : Ran s kept m l o p = simulate-ran s allowed kept m l o pts in
+      let k = ran-kept s kept m l o ready-still p h in
+      let n = h .long in
+      record {
+        log-long = k .log-long ∙ L;
+        long = h .long ∙ O;
+        logged = subst (Logged (p .log) (p .trial .removed)) (k .cells-long) (ran-logged s kept m l o ready-still p h);
+        room = λ f w.
+            let r = h .room f in
+            let two = worth-two (s .grid .cell) (spotsFrom (p .out) kept (p .trial .points)) (p .trial .removed) (sym (ap (λ (b : Bool). cond b false (worthOf (s .grid .cell) (spotsFrom (p .out) kept (p .trial .points)) (p .trial .removed))) f) ∙ w) in
+            (omega arith, omega (arith, spots-length (p .out) kept (p .trial .points)));
+      }
+
+  sound-start : (g : Option (List Vec2)) → Sound kept m l₀ o₀ (startBy s allowed g kept m l o)
+  unfolding startBy
+  sound-start none = sound-none
+  sound-start (some pts) = sound-pass pts
+
+module _ (s : Setup) (allowed : Vec2 → Bool) (pts : List Vec2) (closed : Bool) (pos : Place) (kept : ℕ) (m l : List ℕ) (o : List Float) (R : Ready (st m l 0)) where
+  abbrev Still : Run Tries Tries → Type 0
+  Still (on t) = Sound kept m l o (t .outcome)
+  Still (out t) = Sound kept m l o (t .outcome)
+
+  sound-worked : (c : Outcome) (w : ℕ) → Sound kept m l o c → Sound kept m l o (oc (c .log) (c .out) (worked w (c .attempt)))
+  sound-worked c w q = record { log-long = q .log-long; long = q .long; logged = q .logged; room = q .room }
+
+  still-step : (k : ℕ) (r : Run Tries Tries) → Still r → Still (turn (tryStep s allowed pts closed pos kept m) k r)
+  unfolding turn tryStep
+  still-step k (out t) h = h
+  still-step k (on t) h =
+      let c : Outcome = t .outcome in
+      let g : Option (List Vec2) = guideAt s allowed pts closed pos kept m k in
+      let r : Outcome = startBy s allowed g kept m (c .log) (c .out) in
+      let q = sound-worked r (c .attempt .work) (sound-start s allowed kept m l o R (c .log) (c .out) (h .log-long) (h .long) g) in
+      let u : Tries = ts (oc (r .log) (r .out) (worked (c .attempt .work) (r .attempt))) (t .events ++ tryEvents kept g r) in
+      by-test Still (r .attempt .full || r .attempt .worth) (out u) (on u) (λ e. q) (λ e. q)
+
+  still-loop : (e : ℕ) → Still (loop (turn (tryStep s allowed pts closed pos kept m)) 0 e (on (ts (oc l o (att false false 0 0 0)) [])))
+  still-loop e = loop-keeps (turn (tryStep s allowed pts closed pos kept m)) 0 Still e (λ i r b c g. still-step i r g) (on (ts (oc l o (att false false 0 0 0)) [])) (sound-none s allowed kept m l o R l o refl refl)
+
+  still-end : (r : Run Tries Tries) → Still r → Sound kept m l o (triedEnd r .outcome)
+  unfolding triedEnd
+  still-end (on t) h = h
+  still-end (out t) h = h
+
+  tries-sound : Sound kept m l o (triesOf s allowed pts closed pos kept m l o .outcome)
+  unfolding triesOf
+  tries-sound = still-end _ (still-loop (startsOf closed))
+
+  pub tries-log-long : length (triesOf s allowed pts closed pos kept m l o .outcome .log) ≡ length l
+  tries-log-long = tries-sound .log-long
+
+  pub tries-long : length (triesOf s allowed pts closed pos kept m l o .outcome .out) ≡ length o
+  tries-long = tries-sound .long
+
+  pub tries-logged : let c = triesOf s allowed pts closed pos kept m l o .outcome in Logged (c .log) (c .attempt .removed) (length m)
+  tries-logged = tries-sound .logged
+
+  -- a pass that is worth it has two points or more, and its triples fit
+  pub tries-room : let a = triesOf s allowed pts closed pos kept m l o .outcome .attempt in a .full ≡ false → a .worth ≡ true → ((kept + a .points) * 3 ≤ length o) × (2 ≤ a .points)
+  tries-room f w = tries-sound .room f w
+
+-- ---- the starts
+
+pub first-near : (w : List Float) (from m : ℕ) (closed : Bool) (pos : Place) → from + 2 * m ≤ length w → closed ≡ true → (b : ℕ)
+    → let part = take (from + 2 * m - from) (drop from w) in b ≡ nearOf (points 0 (length part / 2) part) pos → b ≡ cond closed (nearOf (pointsIn from m w) pos) 0
+unfolding within
+first-near w from m closed pos h e b B = rw e (B ∙ ap (λ (k : ℕ). nearOf (points 0 k (take (from + 2 * m - from) (drop from w))) pos) (part-half from m w h))
+
+pub starts-few : (closed : Bool) → startsOf closed ≤ 4
+unfolding startsOf
+starts-few true = omega arith
+starts-few false = omega arith
+
+long-some : (m : ℕ) (closed : Bool) → (m ≤ guideLong m closed) × (guideLong m closed ≤ m + 1)
+unfolding guideLong
+long-some m true = (omega arith, omega arith)
+long-some m false = (omega arith, omega arith)
+
+-- an open piece starts at its first point
+first-open : (m k : ℕ) → 1 ≤ m → k < 1 → startOf 0 m k ≡ 0
+unfolding startOf
+first-open m k h l =
+    let z : k ≡ 0 = omega arith in
+    ap (λ (i : ℕ). (0 + i * m / 4) % m) z ∙ ap (λ (i : ℕ). i % m) (let y : 0 + 0 * m / 4 ≡ 0 = omega arith in y) ∙ mod-eq-of-lt (let y : 0 < m = omega arith in y)
+
+module _ (pts : List Vec2) (m : ℕ) (P : length pts ≡ m) (h : 1 ≤ m) (pos : Place) where
+  near-low : (closed : Bool) (near : ℕ) → near ≡ cond closed (nearOf pts pos) 0 → near < m
+  near-low true near N = let l = near-below pts pos (let y : 0 < length pts = omega arith in y) in omega arith
+  near-low false near N = omega arith
+
+  start-is : (closed : Bool) (near : ℕ) → near ≡ cond closed (nearOf pts pos) 0 → (k : ℕ) → k < startsOf closed → (start : ℕ) → start ≡ startOf near m k → start ≡ startAt pts closed pos k
+  unfolding startAt startsOf
+  start-is true near N k l start S = S ∙ ap (λ (i : ℕ). startOf i m k) N ∙ ap (λ (i : ℕ). startOf (nearOf pts pos) i k) (sym P)
+  start-is false near N k l start S = S ∙ ap (λ (i : ℕ). startOf i m k) N ∙ first-open m k h l
+
+  start-round : (closed : Bool) (near : ℕ) → near ≡ cond closed (nearOf pts pos) 0 → (k : ℕ) → k < startsOf closed → (start : ℕ) → start ≡ startOf near m k → start + guideLong m closed ≤ 2 * m
+  unfolding guideLong startsOf
+  start-round true near N k l start S = let y = start-below near m k (let y : 0 < m = omega arith in y) in omega arith
+  start-round false near N k l start S = let y : start ≡ 0 = S ∙ ap (λ (i : ℕ). startOf i m k) N ∙ first-open m k h l in omega arith
+
+-- ---- a try in the workspace
+
+put-only : {A : Type 0} (a e : ℕ) (w r : List A) → Fits a e w → length r ≡ e - a → Only a e w (put a e r w)
+put-only a e w r h l = record { long = put-length a e w r h l; rest = ap (λ (x : List _). put a e x w) (sym (put-back a e w r h l)) }
+
+-- the guide has as many points as were walked
+bent-long : (s : Setup) (allowed free : Vec2 → Bool) (pts : List Vec2) (b : Option (List Vec2)) → blendOf s allowed free pts ≡ b → length (bentOr pts b) ≡ length pts
+unfolding bentOr
+bent-long s allowed free pts none d = refl
+bent-long s allowed free pts (some l) d = blend-length s allowed free pts l d
+
+module _ (s : Setup) (vs : List Float) (lens mp : List ℕ) (w : List Float) (F : Fitted s vs lens mp w) (from m : ℕ) (A : Among (s .grid .ny * s .grid .nx) from m) where
+  abbrev cells : ℕ
+  cells = s .grid .ny * s .grid .nx
+
+  some-cell : 1 ≤ cells
+  some-cell = mul-pos (F .over .sides .high) (F .over .sides .wide)
+
+  piece-few : m ≤ 2 * most
+  piece-few = omega (arith, A .low, A .high, F .over .sides .cells)
+
+  pub piece-in : from + 2 * m ≤ length w
+  piece-in = omega (arith, A .high, F .long)
+
+  pub start-asks : (closed : Bool) (pos : Place) (near : ℕ) → near ≡ cond closed (nearOf (pointsIn from m w) pos) 0 → (k : ℕ) → k < startsOf closed → (near < m) × ((m ≤ 2 * most) × (k < 4))
+  start-asks closed pos near N k h = (near-low (pointsIn from m w) m (points-length 0 m (within from (from + 2 * m) w)) (A .some) pos closed near N, (piece-few, omega (arith, starts-few closed)))
+
+  module _ (closed : Bool) (start : ℕ) (L : start + guideLong m closed ≤ 2 * m) (n at rim long : ℕ) (N : n ≡ cells) (T : at ≡ guideFrom n) (I : rim ≡ rimFrom n) (G : long ≡ guideLong m closed) where
+    pub spread : Spread s vs lens w n rim from m start long at
+    spread =
+        let p = long-some m closed in
+        let c = some-cell in
+        let lo = A .low in
+        let hi = A .high in
+        let so = A .some in
+        let f = F .long in
+        let g₀ = p .0 in
+        let g₁ = p .1 in
+        let i : 32 * cells ≡ rim = omega arith in
+        record {
+          walls = subst (λ (k : ℕ). Walls s (within 0 k w) vs lens) (sym N) (F .walls);
+          round = subst (λ (k : ℕ). Rim (samplesOf (s .samples)) (within k (k + 4096) w)) i (F .rim);
+          ahead = record { before = omega arith; within = omega arith; round = omega arith };
+          low = omega arith;
+          high = omega arith;
+          end = omega arith;
+          some = omega arith;
+        }
+
+    abbrev trod : List Vec2
+    trod = walkOf (pointsIn from m w) start long
+
+    pub try-only : (w₁ : List Float) → w₁ ≡ put at (at + 2 * long) (flat (bentOr trod (blendOf s (allowedAt s (within 0 n w) vs lens) (freeAt s mp) trod))) w → Only (guideFrom cells) (23 * cells) w w₁
+    try-only w₁ W =
+        let a = spread .ahead .within in
+        let hi = spread .high in
+        let h : Fits at (at + 2 * long) w = record { start = omega arith; end = a } in
+        let b : List Vec2 = bentOr trod (blendOf s (allowedAt s (within 0 n w) vs lens) (freeAt s mp) trod) in
+        let l : length (flat b) ≡ at + 2 * long - at = omega (arith, flat-length b, bent-long s (allowedAt s (within 0 n w) vs lens) (freeAt s mp) trod (blendOf s (allowedAt s (within 0 n w) vs lens) (freeAt s mp) trod) refl, walk-length (pointsIn from m w) start long) in
+        let c = some-cell in
+        let lo = A .low in
+        let to = A .high in
+        let g = long-some m closed .1 in
+        let f = F .long in
+        only-wider at (at + 2 * long) w w₁ h (subst (Only at (at + 2 * long) w) (sym W) (put-only at (at + 2 * long) w (flat b) h l)) (guideFrom cells) (23 * cells) (omega arith) (omega arith) (omega arith)
+
+    -- the guide that was tried is that of the definition
+    pub try-is : (kept : ℕ) (l : List ℕ) (o : List Float) (c : Outcome)
+        → c ≡ startBy s (allowedAt s (within 0 n w) vs lens) (blendOf s (allowedAt s (within 0 n w) vs lens) (freeAt s mp) trod) kept mp l o
+        → c ≡ startBy s (allowedAt s (wallIn s w) vs lens) (blendOf s (allowedAt s (wallIn s w) vs lens) (freeAt s mp) (guideOf (pointsIn from m w) closed start)) kept mp l o
+    unfolding guideOf
+    try-is kept l o c d =
+        let e : long ≡ guideLong (length (pointsIn from m w)) closed = G ∙ ap (λ (k : ℕ). guideLong k closed) (sym (points-length 0 m (within from (from + 2 * m) w))) in
+        d ∙ ap (λ (k : ℕ). startBy s (allowedAt s (within 0 k w) vs lens) (blendOf s (allowedAt s (within 0 k w) vs lens) (freeAt s mp) trod) kept mp l o) N
+        ∙ ap (λ (k : ℕ). startBy s (allowedAt s (wallIn s w) vs lens) (blendOf s (allowedAt s (wallIn s w) vs lens) (freeAt s mp) (walkOf (pointsIn from m w) start k)) kept mp l o) e
+
+-- ---- the loop of `try_piece`
+
+module _ (s : Setup) (vs : List Float) (lens m₀ l₀ : List ℕ) (w₀ o₀ : List Float) (kept from m : ℕ) (closed : Bool) (pos : Place) where
+  abbrev size : ℕ
+  size = s .grid .ny * s .grid .nx
+
+  abbrev pts : List Vec2
+  pts = pointsIn from m w₀
+
+  abbrev may : Vec2 → Bool
+  may = allowedAt s (wallIn s w₀) vs lens
+
+  -- no try so far is worth it, and only the guide's place has changed
+  pub record Trying (mp l : List ℕ) (w o : List Float) (a : Attempt) (k : ℕ) : Type 0 where
+    pub same : mp ≡ m₀
+    pub only : Only (guideFrom size) (23 * size) w₀ w
+    pub events : List Event
+    pub going : Going (turn (tryStep s may pts closed pos kept m₀)) 0 (startsOf closed) (on (ts (oc l₀ o₀ (att false false 0 0 0)) [])) (on (ts (oc l o a) events)) k
+
+  -- what `try_piece` ensures
+  abbrev Done : List ℕ → List ℕ → List Float → List Float → Attempt → Type 0
+  Done mp l w o a = (mp ≡ m₀) × (Only (guideFrom size) (23 * size) w₀ w × (oc l o a ≡ triesOf s may pts closed pos kept m₀ l₀ o₀ .outcome))
+
+  module _ (F : Fitted s vs lens m₀ w₀) (R : Ready (st m₀ l₀ 0)) (A : Among size from m) where
+    place : Fits (guideFrom size) (23 * size) w₀
+    place = record { start = omega arith; end = omega (arith, F .long) }
+
+    pub trying-none : Trying m₀ l₀ w₀ o₀ (att false false 0 0 0) 0
+    trying-none = record { same = refl; only = only-same (guideFrom size) (23 * size) w₀ place; events = []; going = going-none _ _ _ _ }
+
+    module _ (near : ℕ) (N : near ≡ cond closed (nearOf pts pos) 0) where
+      piece-long : length pts ≡ m
+      piece-long = points-length 0 m (within from (from + 2 * m) w₀)
+
+      module _ (mp l : List ℕ) (w o : List Float) (a : Attempt) (k : ℕ) (T : Trying mp l w o a k) where
+        wall-same : wallIn s w ≡ wallIn s w₀
+        wall-same = only-before (guideFrom size) (23 * size) w₀ place w (T .only) 0 size (omega arith) (omega arith)
+
+        piece-same : pointsIn from m w ≡ pts
+        piece-same = ap (points 0 m) (only-before (guideFrom size) (23 * size) w₀ place w (T .only) from (from + 2 * m) (omega arith) (A .high))
+
+        sound : Sound kept m₀ l₀ o₀ (oc l o a)
+        sound = subst (Still s may pts closed pos kept m₀ l₀ o₀ R) (sym (T .going .is)) (still-loop s may pts closed pos kept m₀ l₀ o₀ R k)
+
+        module _ (h : k < startsOf closed) (start : ℕ) (S : start ≡ startOf near m k) where
+          pub try-asks : Fitted s vs lens mp w × (Ready (st mp l 0) × (Among size from m × (start + guideLong m closed ≤ 2 * m)))
+          try-asks = (
+            record {
+              walls = subst (λ (v : List Float). Walls s v vs lens) (sym wall-same) (F .walls);
+              over = subst (λ (v : List ℕ). Over (s .grid) (length v)) (sym (T .same)) (F .over);
+              rim = subst (Rim (samplesOf (s .samples))) (sym (only-after (guideFrom size) (23 * size) w₀ place w (T .only) (32 * size) (32 * size + 4096) (omega arith))) (F .rim);
+              long = omega (arith, F .long, T .only .long);
+            },
+            (
+              subst (λ (v : List ℕ). Ready (st v l 0)) (sym (T .same)) (record { room = omega (arith, R .room, sound .log-long); small = R .small }),
+              (A, start-round pts m piece-long (A .some) pos closed near N k h start S),
+            ),
+          )
+
+          module _ (mp′ l′ : List ℕ) (w′ o′ : List Float) (t : Attempt) (M : mp′ ≡ mp) (O : Only (guideFrom size) (23 * size) w w′)
+              (E : oc l′ o′ t ≡ startBy s (allowedAt s (wallIn s w) vs lens) (blendOf s (allowedAt s (wallIn s w) vs lens) (freeAt s mp) (guideOf (pointsIn from m w) closed start)) kept mp l o)
+              (work : ℕ) (W : work ≡ satAdd (a .work) (t .work)) where
+            abbrev so : Attempt
+            so = att (t .full) (t .worth) (t .points) (t .removed) work
+
+            abbrev guide : Option (List Vec2)
+            guide = guideAt s may pts closed pos kept m₀ k
+
+            abbrev later : Tries
+            later = ts (oc l′ o′ so) (T .events ++ tryEvents kept guide (oc l′ o′ t))
+
+            tried-as : oc l′ o′ t ≡ startBy s may guide kept m₀ l o
+            unfolding guideAt
+            tried-as =
+                E ∙ ap (λ (v : List Float). startBy s (allowedAt s v vs lens) (blendOf s (allowedAt s v vs lens) (freeAt s mp) (guideOf (pointsIn from m w) closed start)) kept mp l o) wall-same
+                ∙ ap (λ (q : List Vec2). startBy s may (blendOf s may (freeAt s mp) (guideOf q closed start)) kept mp l o) piece-same
+                ∙ ap (λ (v : List ℕ). startBy s may (blendOf s may (freeAt s v) (guideOf pts closed start)) kept v l o) (T .same)
+                ∙ ap (λ (i : ℕ). startBy s may (blendOf s may (freeAt s m₀) (guideOf pts closed i)) kept m₀ l o) (start-is pts m piece-long (A .some) pos closed near N k h start S)
+
+            step-is : tryStep s may pts closed pos kept m₀ k (ts (oc l o a) (T .events)) ≡ cond (t .full || t .worth) (out later) (on later)
+            unfolding tryStep
+            step-is =
+                let step : ℕ → Outcome → Run Tries Tries = λ i r.
+                let u = ts (oc (r .log) (r .out) (att (r .attempt .full) (r .attempt .worth) (r .attempt .points) (r .attempt .removed) i)) (T .events ++ tryEvents kept guide r) in
+                cond (r .attempt .full || r .attempt .worth) (out u) (on u) in
+                ap (λ (r : Outcome). step (satAdd (a .work) (r .attempt .work)) r) (sym tried-as) ∙ ap (λ (i : ℕ). step i (oc l′ o′ t)) (sym W)
+
+            only-so : Only (guideFrom size) (23 * size) w₀ w′
+            only-so = only-more (guideFrom size) (23 * size) w₀ place w (T .only) w′ O
+
+            pub trying-more : t .full ≡ false → t .worth ≡ false → Trying mp′ l′ w′ o′ so (k + 1)
+            trying-more f g = record {
+              same = M ∙ T .same;
+              only = only-so;
+              events = T .events ++ tryEvents kept guide (oc l′ o′ t);
+              going = going-on (tryStep s may pts closed pos kept m₀) 0 (startsOf closed) _ _ later k (T .going) h (sym (step-is ∙ ap (λ (b : Bool). cond (b || t .worth) (out later) (on later)) f ∙ ap (λ (b : Bool). cond b (out later) (on later)) g));
+            }
+
+            pub done-here : t .full || t .worth ≡ true → Done mp′ l′ w′ o′ so
+            unfolding triesOf triedEnd
+            done-here b =
+                (M ∙ T .same, (only-so, ap (λ (r : Run Tries Tries). triedEnd r .outcome) (sym (going-out (tryStep s may pts closed pos kept m₀) 0 (startsOf closed) _ _ k later (T .going) h (step-is ∙ ap (λ (q : Bool). cond q (out later) (on later)) b)))))
+
+        pub done-last : startsOf closed ≤ k → Done mp l w o a
+        unfolding triesOf triedEnd
+        done-last h = (T .same, (T .only, ap (λ (r : Run Tries Tries). triedEnd r .outcome) (going-end _ _ _ _ _ _ (T .going) h)))
+
+-- the invariant: `pos` is not read in the loop, so it is any place that `near` comes from
+pub record Round (s : Setup) (vs : List Float) (lens m₀ l₀ : List ℕ) (w₀ o₀ : List Float) (kept from m : ℕ) (closed : Bool) (near : ℕ) (mp l : List ℕ) (w o : List Float) (a : Attempt) (k : ℕ) : Type 0 where
+  pub map-long : length mp ≡ length m₀
+  pub log-long : length l ≡ length l₀
+  pub long : length w ≡ length w₀
+  pub out-long : length o ≡ length o₀
+  pub trying : (pos : Place) → near ≡ cond closed (nearOf (pointsIn from m w₀) pos) 0 → Trying s vs lens m₀ l₀ w₀ o₀ kept from m closed pos mp l w o a k

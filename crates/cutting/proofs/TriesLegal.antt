@@ -1,0 +1,99 @@
+-- The tries of a piece are legal events: nothing is left on trial, or the pass that is worth it. Assumes nothing.
+use mathlib.Core.Path.{_≡_, refl, sym, ap, _∙_, subst}
+use mathlib.Core.Bool.{Bool, false, _||_}
+use mathlib.Core.List.{List, [], _++_}
+use mathlib.Core.Option.{Option, none}
+use Prim.Native.Nat.{ℕ}
+use native.Mathlib.Omega.{arith}
+use lib.ListN.{length}
+use lib.Ieee.{Float}
+use Rattle.loops.specs.Loop.{Run, on, out, turn}
+use Rattle.loops.proofs.Cases.{by-test, never, neither}
+use Rattle.loops.proofs.LoopLaws.{loop-keeps}
+use Rattle.geom.specs.declared.vec2.Vec2.{Vec2}
+use Rattle.raster.specs.Log.{Stock, st, Ready}
+use Rattle.setup.specs.Place.{freeAt}
+use Rattle.setup.specs.declared.Setup.{Setup}
+use Rattle.events.specs.Chunk.{Chunk, Job}
+use Rattle.events.specs.Events.{Event, State, state, steps, LegalFrom}
+use Rattle.events.proofs.GrowLaws.{steps-append, legal-append}
+use Rattle.passes.specs.Guide.{blendOf}
+use Rattle.passes.specs.Attempt.{Outcome, att, oc, startBy}
+use Rattle.passes.specs.Tried.{jobFor, Measured}
+use Rattle.passes.specs.declared.start.Place.{Place}
+use Rattle.cutting.specs.Tries.{startsOf, startAt, guideOf, Tries, worked, tryEvents, triedEnd, guideAt, tryStep, triesOf}
+use Rattle.cutting.proofs.TryLegal.{TriesLegal, start-legal}
+
+-- what holds of a state with nothing on trial, its stock being k
+pub from-idle : (P : State → Type 0) (e : State) (k : Stock) → e .stock ≡ k → e .trial ≡ none → P (state k (e .rows) (e .position) none) → P e
+from-idle P e k a b h = subst P (λ i. state (sym a i) (e .rows) (e .position) (sym b i)) h
+
+-- ---- try after try
+
+module _ (s : Setup) (allowed : Vec2 → Bool) (start : List ℕ) (limit : Float) (M : Measured s) (kept : ℕ) (m : List ℕ) (rows : List Chunk) (position : Option Vec2) where
+  abbrev job : Job
+  job = jobFor s allowed start limit
+
+  abbrev idleAt : List ℕ → State
+  idleAt l = state (st m l 0) rows position none
+
+  abbrev Tells : List ℕ → Outcome → List Event → Type 0
+  Tells l c es = TriesLegal job (idleAt l) kept m l c es
+
+  -- the events before left nothing on trial
+  next-legal : (l : List ℕ) (c : Outcome) (es : List Event) → Tells l c es → c .attempt .worth ≡ false → (w : ℕ) (r : Outcome) (fs : List Event) → Tells (c .log) r fs
+      → Tells l (oc (r .log) (r .out) (worked w (r .attempt))) (es ++ fs)
+  next-legal l c es h z w r fs g =
+      let d : steps job (idleAt l) es ≡ idleAt (c .log) = h .idle z in
+      let x : steps job (idleAt l) (es ++ fs) ≡ steps job (idleAt (c .log)) fs = steps-append job es fs (idleAt l) ∙ ap (λ (f : State). steps job f fs) d in
+      record {
+        legal = legal-append job es fs (idleAt l) (h .legal) (subst (λ (f : State). LegalFrom job f fs) (sym d) (g .legal));
+        long = g .long ∙ h .long;
+        full = g .full;
+        idle = λ b. x ∙ g .idle b;
+        trial = λ b. let t = g .trial b in
+            record { stock = t .stock; slice = t .slice; ran = t .ran; log = t .log; count = t .count; is = x ∙ t .is; more = t .more; points = t .points; begins = t .begins };
+      }
+
+  module _ (pts : List Vec2) (closed : Bool) (pos : Place) (log : List ℕ) (R : Ready (st m log 0)) where
+    -- the loop goes on with nothing on trial, or it is left
+    abbrev Going : Run Tries Tries → Type 0
+    Going (on t) = Tells log (t .outcome) (t .events) × (t .outcome .attempt .worth ≡ false)
+    Going (out t) = Tells log (t .outcome) (t .events)
+
+    go-step : (k : ℕ) (r : Run Tries Tries) → Going r → Going (turn (tryStep s allowed pts closed pos kept m) k r)
+    unfolding turn tryStep guideAt
+    go-step k (out t) h = h
+    go-step k (on t) h =
+        let c : Outcome = t .outcome in
+        let walk : List Vec2 = guideOf pts closed (startAt pts closed pos k) in
+        let g : Option (List Vec2) = blendOf s allowed (freeAt s m) walk in
+        let r : Outcome = startBy s allowed g kept m (c .log) (c .out) in
+        let n = next-legal log c (t .events) (h .0) (h .1) (c .attempt .work) r (tryEvents kept g r)
+        (start-legal s allowed start limit M kept m rows position (c .log) (c .out) (ready-log (c .log) (h .0 .long)) walk g refl) in
+        by-test Going (r .attempt .full || r .attempt .worth) _ _ (λ b. n) (λ b. (n, neither (r .attempt .full) (r .attempt .worth) b .1))
+      where
+        ready-log : (l : List ℕ) → length l ≡ length log → Ready (st m l 0)
+        ready-log l e = record { room = omega (arith, R .room, e); small = R .small }
+
+    go-end : (r : Run Tries Tries) → Going r → Tells log (triedEnd r .outcome) (triedEnd r .events)
+    unfolding triedEnd
+    go-end (on t) h = h .0
+    go-end (out t) h = h
+
+    tries-here : (o : List Float) → let q = triesOf s allowed pts closed pos kept m log o in Tells log (q .outcome) (q .events)
+    unfolding triesOf steps
+    tries-here o =
+        go-end _ (loop-keeps (turn (tryStep s allowed pts closed pos kept m)) 0 Going (startsOf closed) (λ i r b c h. go-step i r h) _ (nothing, refl))
+      where
+        nothing : Tells log (oc log o (att false false 0 0 0)) []
+        nothing = record { legal = tt; long = refl; full = λ h. never h; idle = λ h. refl; trial = λ h. never h }
+
+-- from any state with the map m, the log's slice `log` and nothing on trial
+pub tries-legal : (s : Setup) (allowed : Vec2 → Bool) (start : List ℕ) (limit : Float) → Measured s → (pts : List Vec2) (closed : Bool) (pos : Place) (kept : ℕ) (m log : List ℕ) (o : List Float) → Ready (st m log 0)
+    → (e : State) → e .stock ≡ st m log 0 → e .trial ≡ none
+    → let q = triesOf s allowed pts closed pos kept m log o in TriesLegal (jobFor s allowed start limit) e kept m log (q .outcome) (q .events)
+tries-legal s allowed start limit M pts closed pos kept m log o R e a b =
+    let q : Tries = triesOf s allowed pts closed pos kept m log o in
+    from-idle (λ (f : State). TriesLegal (jobFor s allowed start limit) f kept m log (q .outcome) (q .events)) e (st m log 0) a b
+    (tries-here s allowed start limit M kept m (e .rows) (e .position) pts closed pos log R o)

@@ -1,0 +1,5 @@
+-- What the contracts of `cutting` cite.
+pub mod Tries
+pub mod Way
+pub mod Listing
+pub mod Piece

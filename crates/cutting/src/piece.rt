@@ -1,0 +1,234 @@
+// A piece cut: the way to the first pass that is worth it, judged on the map before the pass, and the pass
+// kept.
+ghost use mathlib.Core.Path.{_≡_};
+ghost use mathlib.Core.Bool.{cond};
+ghost use Prim.Native.Nat.{_*_, _≤_};
+ghost use lib.ListN.{length};
+ghost use Rattle.geom.specs.Points.{points};
+ghost use Rattle.raster.specs.Grid.{Sides};
+ghost use Rattle.raster.specs.Log.{undone, redone, Logged};
+ghost use Rattle.setup.specs.Layout.{most, run, putRun};
+ghost use Rattle.links.specs.Frame.{Only};
+ghost use Rattle.links.specs.Path.{way, lost, wallIn, Fitted};
+ghost use Rattle.passes.specs.Guide.{pointsIn};
+ghost use Rattle.cutting.specs.Tries.{Among};
+ghost use Rattle.cutting.specs.Piece.{spending, lf, keptOf, wentOf, cutPieceOf, Lends, Listed, Settled, Behind};
+use super::listing::greatest;
+use super::listing::list_pass;
+use super::listing::refusal;
+use super::tries::try_piece;
+use super::way::way_to;
+use events::list::spot;
+use links::link::Route;
+use passes::shifts::sat_add;
+use passes::start::Place;
+use setup::Setup;
+use setup::layout;
+
+// What planning holds by value: where the tool is, how many rows and triples are listed, the greatest
+// contact of a listed point, and the work.
+pub struct State {
+    pub pos: Place,
+    pub rows: usize,
+    pub triples: usize,
+    pub planned_max: f64,
+    pub work: usize,
+}
+
+// What became of a piece: nothing worth it, a pass kept, or document 01's refusal 16 or 17.
+pub enum Cut {
+    Nothing(State),
+    Kept(State),
+    Refused(u32),
+}
+
+// The work of the tries or of a search.
+fn spend(t: State, work: usize) -> State
+    ensures { λ r. ⌜ r ≡ spending work t ⌝ }
+{
+    let pos = t.pos;
+    State {
+        pos,
+        rows: t.rows,
+        triples: t.triples,
+        planned_max: t.planned_max,
+        work: sat_add(t.work, work),
+    }
+}
+
+// The logged cells are cleared for good and marked dirty.
+fn settle(b: &mut [u8], log: &[u32], n: usize, removed: usize)
+    requires { ⌜ n ≤ most ⌝ }
+    requires { ⌜ 8 * n ≤ length (now b) ⌝ }
+    requires { ⌜ Logged (now log) removed n ⌝ }
+    ensures { λ _. ⌜ now (b .exit) ≡ putRun 4 n (undone (now (log .entry)) 0 removed (run 4 n (now (b .entry)))) (putRun 0 n (redone (now (log .entry)) 0 removed (run 0 n (now (b .entry)))) (now (b .entry))) ⌝ }
+{
+    let d = layout::dirty(n);
+    let e = d + n;
+    raster::log::clear_again(&mut b[0..n], log, removed);
+    raster::log::undo(&mut b[d..e], log, removed);
+}
+
+// Keeps the pass on trial behind its way, where all their chunks fit: `removed` cells are logged, and its n
+// points stand in the triples behind the listed ones. The way has `count` points, or is a plunge.
+fn keep_pass(
+    s: Setup,
+    t: State,
+    b: &mut [u8],
+    log: &[u32],
+    path: &[f64],
+    triples: &mut [f64],
+    rows: &mut [u32],
+    found: bool,
+    count: usize,
+    removed: usize,
+    n: usize,
+) -> Cut
+    requires { ⌜ Sides (s .grid) ⌝ }
+    requires { ⌜ 8 * (s .grid .ny * s .grid .nx) ≤ length (now b) ⌝ }
+    requires { ⌜ Logged (now log) removed (s .grid .ny * s .grid .nx) ⌝ }
+    requires { ⌜ 2 * count ≤ length (now path) ⌝ }
+    requires { ⌜ Listed (now rows) (now triples) t n ⌝ }
+    requires { ⌜ 1 ≤ n ⌝ }
+    ensures { λ r. ⌜ lf (run 0 (s .grid .ny * s .grid .nx) (now (b .exit))) (run 4 (s .grid .ny * s .grid .nx) (now (b .exit))) (now (log .entry)) (now (rows .exit)) (now (triples .exit)) r ≡ keptOf s (cond found (way (points 0 count (now (path .entry)))) lost) removed n t (run 0 (s .grid .ny * s .grid .nx) (now (b .entry))) (run 4 (s .grid .ny * s .grid .nx) (now (b .entry))) (now (log .entry)) (now (rows .entry)) (now (triples .entry)) .left ⌝ }
+    ensures { λ _. ⌜ Settled (s .grid .ny * s .grid .nx) (now (b .entry)) (now (b .exit)) ⌝ }
+{
+    let first = t.triples;
+    let row = t.rows;
+    let moves = if found { count } else { 1 };
+    let no = refusal(triples.len() / 3 - first, rows.len() / 3 - row, moves, n);
+    if no != 0 {
+        return Cut::Refused(no);
+    }
+    let planned_max = greatest(triples, first, n, t.planned_max);
+    let lead = spot(triples, first);
+    let last = spot(triples, first + n - 1);
+    list_pass(triples, rows, path, found, count, lead, first, row, n);
+    settle(b, log, s.grid.ny * s.grid.nx, removed);
+    Cut::Kept(State {
+        pos: Place::At(last),
+        rows: row + moves + 1,
+        triples: first + moves + n,
+        planned_max,
+        work: t.work,
+    })
+}
+
+// How many points a way has; no way has none.
+fn points_of(r: Route) -> usize
+    ensures { λ n. ⌜ n ≡ cond (r .found) (r .points) 0 ⌝ }
+{
+    if r.found {
+        return r.points;
+    }
+    0
+}
+
+// The way to the pass on trial, judged on the map before it; then the pass is kept.
+fn go_and_keep(
+    s: Setup,
+    t: State,
+    vs: &[f64],
+    lens: &[u32],
+    b: &mut [u8],
+    u: &mut [u32],
+    w: &mut [f64],
+    triples: &mut [f64],
+    rows: &mut [u32],
+    removed: usize,
+    n: usize,
+) -> Cut
+    requires { ⌜ Fitted s (now vs) (now lens) (run 0 (s .grid .ny * s .grid .nx) (now b)) (now w) ⌝ }
+    requires { ⌜ Lends (s .grid .ny * s .grid .nx) (now b) (now u) ⌝ }
+    requires { ⌜ Logged (run 24 (s .grid .ny * s .grid .nx) (now u)) removed (s .grid .ny * s .grid .nx) ⌝ }
+    requires { ⌜ Listed (now rows) (now triples) t n ⌝ }
+    requires { ⌜ 1 ≤ n ⌝ }
+    ensures { λ r. ⌜ lf (run 0 (s .grid .ny * s .grid .nx) (now (b .exit))) (run 4 (s .grid .ny * s .grid .nx) (now (b .exit))) (run 24 (s .grid .ny * s .grid .nx) (now (u .exit))) (now (rows .exit)) (now (triples .exit)) r ≡ wentOf s (wallIn s (now (w .entry))) (now (vs .entry)) (now (lens .entry)) (run 1 (s .grid .ny * s .grid .nx) (now (b .entry))) t removed n (run 0 (s .grid .ny * s .grid .nx) (now (b .entry))) (run 4 (s .grid .ny * s .grid .nx) (now (b .entry))) (run 24 (s .grid .ny * s .grid .nx) (now (u .entry))) (now (rows .entry)) (now (triples .entry)) .left ⌝ }
+    ensures { λ _. ⌜ Settled (s .grid .ny * s .grid .nx) (now (b .entry)) (now (b .exit)) ⌝ }
+    ensures { λ _. ⌜ Only 0 (15 * (s .grid .ny * s .grid .nx)) (now (u .entry)) (now (u .exit)) ⌝ }
+    ensures { λ _. ⌜ Only (10 * (s .grid .ny * s .grid .nx)) (23 * (s .grid .ny * s .grid .nx)) (now (w .entry)) (now (w .exit)) ⌝ }
+{
+    let size = s.grid.ny * s.grid.nx;
+    let to = spot(triples, t.triples);
+    let pos = t.pos;
+    let r = way_to(s, vs, lens, &b[0..size], &b[size..2 * size], u, w, pos, to);
+    let count = points_of(r);
+    let log = 24 * size;
+    let path = 20 * size;
+    keep_pass(
+        s,
+        spend(t, r.work),
+        b,
+        &u[log..log + size],
+        &w[path..23 * size],
+        triples,
+        rows,
+        r.found,
+        count,
+        removed,
+        n,
+    )
+}
+
+// Cuts the piece of m points at `from` of the workspace, open or closed.
+pub fn cut_piece(
+    s: Setup,
+    t: State,
+    vs: &[f64],
+    lens: &[u32],
+    b: &mut [u8],
+    u: &mut [u32],
+    w: &mut [f64],
+    triples: &mut [f64],
+    rows: &mut [u32],
+    from: usize,
+    m: usize,
+    closed: bool,
+) -> Cut
+    requires { ⌜ Fitted s (now vs) (now lens) (run 0 (s .grid .ny * s .grid .nx) (now b)) (now w) ⌝ }
+    requires { ⌜ Lends (s .grid .ny * s .grid .nx) (now b) (now u) ⌝ }
+    requires { ⌜ Among (s .grid .ny * s .grid .nx) from m ⌝ }
+    requires { ⌜ Listed (now rows) (now triples) t 0 ⌝ }
+    ensures { λ r. ⌜ lf (run 0 (s .grid .ny * s .grid .nx) (now (b .exit))) (run 4 (s .grid .ny * s .grid .nx) (now (b .exit))) (run 24 (s .grid .ny * s .grid .nx) (now (u .exit))) (now (rows .exit)) (now (triples .exit)) r ≡ cutPieceOf s (wallIn s (now (w .entry))) (now (vs .entry)) (now (lens .entry)) (run 1 (s .grid .ny * s .grid .nx) (now (b .entry))) (pointsIn from m (now (w .entry))) closed t (run 0 (s .grid .ny * s .grid .nx) (now (b .entry))) (run 4 (s .grid .ny * s .grid .nx) (now (b .entry))) (now (rows .entry)) (run 24 (s .grid .ny * s .grid .nx) (now (u .entry))) (now (triples .entry)) .left ⌝ }
+    ensures { λ _. ⌜ Settled (s .grid .ny * s .grid .nx) (now (b .entry)) (now (b .exit)) ⌝ }
+    ensures { λ _. ⌜ Behind (s .grid .ny * s .grid .nx) (now (u .entry)) (now (u .exit)) ⌝ }
+    ensures { λ _. ⌜ Only (5 * (s .grid .ny * s .grid .nx)) (23 * (s .grid .ny * s .grid .nx)) (now (w .entry)) (now (w .exit)) ⌝ }
+{
+    let n = s.grid.ny * s.grid.nx;
+    let log = 24 * n;
+    let pos = t.pos;
+    let a = try_piece(
+        s,
+        vs,
+        lens,
+        &mut b[0..n],
+        &mut u[log..log + n],
+        w,
+        triples,
+        t.triples,
+        from,
+        m,
+        closed,
+        pos,
+    );
+    if a.full {
+        return Cut::Refused(16);
+    }
+    let done = spend(t, a.work);
+    if a.worth {
+        return go_and_keep(
+            s,
+            done,
+            vs,
+            lens,
+            b,
+            u,
+            w,
+            triples,
+            rows,
+            a.removed,
+            a.points,
+        );
+    }
+    Cut::Nothing(done)
+}
