@@ -9,9 +9,10 @@ use lib.Ieee.{Float, inf, lt, ne, isNan}
 use Rattle.loops.proofs.Cases.{by-cases}
 use Rattle.loops.proofs.CellLaws.{row-below}
 use Rattle.numbers.proofs.WholeLaws.{differs}
+use Rattle.numbers.specs.Small.{half}
 use Rattle.geom.specs.Vec.{f0, difference, crossOf, lerpOf, distanceOf}
 use Rattle.geom.specs.declared.vec2.Vec2.{Vec2}
-use Rattle.raster.specs.Grid.{Sides, half, numbered, centerOf}
+use Rattle.raster.specs.Grid.{Sides, numbered, centerOf}
 use Rattle.raster.specs.declared.grid.Grid.{Grid}
 use Rattle.raster.specs.declared.grid.CellNo.{CellNo}
 use Rattle.raster.proofs.GridLaws.{number-below}

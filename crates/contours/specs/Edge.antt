@@ -4,12 +4,12 @@ use mathlib.Core.Bool.{Bool, cond}
 use mathlib.Core.List.{List}
 use lib.ListN.{getD}
 use lib.Dec.{eqb}
-use lib.Ieee.{Float, nan, binary64, ofBits, sub, div, lt}
+use lib.Ieee.{Float, nan, binary64, sub, div, lt}
 use Rattle.numbers.specs.Order.{absOf, clampOf}
+use Rattle.numbers.specs.Small.{f1, half, tiny}
 use Rattle.geom.specs.Vec.{f0, lerpOf}
-use Rattle.geom.specs.Segment.{f1}
 use Rattle.geom.specs.declared.vec2.Vec2.{Vec2}
-use Rattle.raster.specs.Grid.{half, centerOf}
+use Rattle.raster.specs.Grid.{centerOf}
 use Rattle.raster.specs.declared.grid.Grid.{Grid}
 use Rattle.raster.specs.declared.grid.CellNo.{CellNo}
 use Rattle.contours.specs.declared.edge.EdgeNo.{EdgeNo}
@@ -38,10 +38,6 @@ pub record Between (g : Grid) (e : EdgeNo) : Type 0 where
 -- the other cell's centre; (i, j) is the lower cell
 unfoldable pub farCenter : Grid → EdgeNo → ℕ → ℕ → Vec2
 farCenter g e i j = cond (isUpward e) (centerOf g i (j + 1)) (centerOf g (i + 1) j)
-
--- 1e-12
-abbrev tiny : Float
-tiny = ofBits binary64 0x3d71_9799_812d_ea11
 
 -- how far along an edge the level is, from fa to fb
 unfoldable pub alongOf : Float → Float → Float → Float

@@ -6,8 +6,9 @@ use mathlib.Core.Bool.{Bool, false, cond, _&&_, _||_}
 use mathlib.Core.List.{List, [], _∷_, _++_, map}
 use lib.ListN.{length, getD, set}
 use lib.Dec.{eqb, ltb}
-use lib.Ieee.{Float, nan, binary64, ofBits, le, eq}
+use lib.Ieee.{Float, nan, le, eq}
 use Rattle.loops.specs.Loop.{loop}
+use Rattle.numbers.specs.Small.{half, quarter}
 use Rattle.geom.specs.Vec.{v2, sum, scaled, distanceOf}
 use Rattle.geom.specs.Region.{vertexOf, before, after}
 use Rattle.geom.specs.Points.{putPoint, points}
@@ -22,12 +23,6 @@ abbrev pub lastOf : List Vec2 → Vec2
 lastOf ps = pointAt ps (length ps - 1)
 
 -- ---- averaging
-
-abbrev pub half : Float
-half = ofBits binary64 0x3fe0_0000_0000_0000
-
-abbrev pub quarter : Float
-quarter = ofBits binary64 0x3fd0_0000_0000_0000
 
 -- p * 0.5 + (a + b) * 0.25
 unfoldable pub meanOf : Vec2 → Vec2 → Vec2 → Vec2

@@ -6,9 +6,10 @@ use mathlib.Core.List.{List}
 use lib.ListN.{getD}
 use lib.Dec.{eqb}
 use lib.Ieee.{Float, nan, inf, binary32, ofBits, add, mul, lt, isNan}
+use Rattle.numbers.specs.Small.{half}
 use Rattle.geom.specs.Vec.{f0, difference, crossOf, lerpOf, distanceOf}
 use Rattle.geom.specs.declared.vec2.Vec2.{Vec2}
-use Rattle.raster.specs.Grid.{half, numbered, centerOf}
+use Rattle.raster.specs.Grid.{numbered, centerOf}
 use Rattle.raster.specs.declared.grid.Grid.{Grid}
 use Rattle.contours.specs.Edge.{acrossOf, upwardOf, Between, crossingAt}
 use Rattle.contours.specs.declared.edge.EdgeNo.{EdgeNo}

@@ -31,7 +31,7 @@ use Rattle.cutting.specs.declared.piece.Cut.the-variants.{Nothing, Kept,
 use Rattle.cutting.proofs.ListingLaws.{put-rows-long, points-from-long, way-singles}
 use Rattle.cutting.proofs.RefusalLaws.{needs-are, refusal-none}
 use Rattle.cutting.proofs.ListedLaws.{listed-holds, gap-long}
-use Rattle.cutting.proofs.TriesLaws.{tries-long, tries-room}
+use Rattle.cutting.proofs.TriesKeep.{tries-long, tries-room}
 use Rattle.cutting.proofs.TriesHolds.{tries-stand}
 use Rattle.cutting.proofs.CutLegal.{listedBy, newAfter}
 

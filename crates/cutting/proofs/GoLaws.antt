@@ -16,11 +16,11 @@ use Rattle.raster.specs.Grid.{Over, Sides}
 use Rattle.raster.specs.Log.{Logged}
 use Rattle.setup.specs.Layout.{run}
 use Rattle.setup.specs.declared.Setup.{Setup}
-use Rattle.links.specs.Frame.{Only}
+use Rattle.loops.specs.Frame.{Only}
 use Rattle.links.specs.Path.{Way, lost, way, wallIn, Fitted}
 use Rattle.links.specs.Link.{Linked, linkPath, linkedIn}
 use Rattle.links.specs.declared.link.Route.{Route}
-use Rattle.links.proofs.FrameLaws.{only-after}
+use Rattle.loops.proofs.FrameLaws.{only-after}
 use Rattle.links.proofs.WayLaws.{link-few}
 use Rattle.events.specs.Read.{spotAt}
 use Rattle.passes.specs.declared.start.Place.{Place}
@@ -29,7 +29,7 @@ use Rattle.cutting.specs.Way.{routeOf}
 use Rattle.cutting.specs.Piece.{spending, Left, lf, keptOf, wentOf, Lends, Listed}
 use Rattle.cutting.specs.declared.piece.State.{State}
 use Rattle.cutting.specs.declared.piece.Cut.{Cut}
-use Rattle.cutting.proofs.PartLaws.{part-is, part-long}
+use Rattle.setup.proofs.PartLaws.{part-is, part-long}
 
 -- a way has at most n points
 abbrev Few : ℕ → Way → Type 0

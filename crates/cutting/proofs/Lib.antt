@@ -1,10 +1,10 @@
--- For the proofs of the functions: `PartLaws`, `SettleLaws`, `WayLaws`, `TriesLaws`, `RefusalLaws`, `ListingLaws`, `ListedLaws`, `KeepLaws`, `GoLaws`, `PieceLaws`.
+-- For the proofs of the functions: `SettleLaws`, `WayLaws`, `TriesKeep`, `TriesLaws`, `RefusalLaws`, `ListingLaws`, `ListedLaws`, `KeepLaws`, `GoLaws`, `PieceLaws`.
 -- `JudgeLaws`: the judges of the job are those of the code. `TryLegal`, `TriesLegal`: the tries of a piece are legal events, `WayLegal`: so is the way to the pass
 -- that is worth it, `CutLegal`: so is the cutting of the piece. `TriesHolds`, `CutHolds`: the lent rows and triples hold what is listed. `CutTold`: demand 3 over
 -- a piece.
-pub mod PartLaws
 pub mod SettleLaws
 pub mod WayLaws
+pub mod TriesKeep
 pub mod TriesLaws
 pub mod RefusalLaws
 pub mod ListingLaws

@@ -4,22 +4,20 @@ use mathlib.Core.Bool.{Bool, true, false}
 use mathlib.Core.List.{List}
 use Prim.Native.Nat.{ℕ, _+_, _-_, _*_, _≤_}
 use native.Mathlib.Omega.{arith}
-use lib.ListN.{length, take, drop, length-drop}
-use lib.Seq.{take-all}
+use lib.ListN.{length, take, drop}
 use lib.Ieee.{Float}
 use borrow.Rule.Slice.PartMut.{putMid, put-same}
-use Rattle.loops.specs.Regions.{Fits, within}
+use Rattle.loops.specs.Regions.{Fits}
 use Rattle.geom.specs.declared.vec2.Vec2.{Vec2}
-use Rattle.raster.specs.Grid.{Over}
-use Rattle.raster.specs.Contact.{samplesOf, Rim}
 use Rattle.raster.specs.Log.{st, Ready, Logged}
 use Rattle.raster.proofs.RunLaws.{ready-for}
 use Rattle.setup.specs.Layout.{run, guideFrom, segmentsFrom, logFrom}
-use Rattle.setup.specs.Place.{Walls, allowedAt}
+use Rattle.setup.specs.Place.{allowedAt}
 use Rattle.setup.specs.declared.Setup.{Setup}
-use Rattle.links.specs.Frame.{Only}
+use Rattle.loops.specs.Frame.{Only}
 use Rattle.links.specs.Path.{wallIn, Fitted}
-use Rattle.links.proofs.FrameLaws.{back-there, back-only, only-more, only-before, only-after, only-wider}
+use Rattle.links.proofs.LinkLaws.{wall-kept, fitted-kept}
+use Rattle.loops.proofs.FrameLaws.{back-there, back-only, only-more, only-before, only-after, only-rest, only-wider}
 use Rattle.events.specs.Events.{Event}
 use Rattle.passes.specs.Guide.{pointsIn}
 use Rattle.passes.specs.Attempt.{Outcome, oc}
@@ -29,18 +27,11 @@ use Rattle.cutting.specs.Piece.{spending, Left, lf, wentOf, worthyOf, af
 use Rattle.cutting.specs.declared.piece.State.{State}
 use Rattle.cutting.specs.declared.piece.Cut.{Cut}
 use Rattle.cutting.specs.declared.piece.Cut.the-variants.{Nothing, Refused}
-use Rattle.cutting.proofs.PartLaws.{part-is, run-long}
+use Rattle.setup.proofs.PartLaws.{part-is, run-long}
 use Rattle.cutting.proofs.SettleLaws.{settled-not}
-use Rattle.cutting.proofs.TriesLaws.{tries-log-long, tries-long, tries-logged, tries-room}
+use Rattle.cutting.proofs.TriesKeep.{tries-log-long, tries-long, tries-logged, tries-room}
 
 -- ---- the u32 behind what was written
-
-only-rest : {A : Type 0} (a e : ℕ) (w u : List A) → Fits a e w → Only a e w u → (b : ℕ) → e ≤ b → drop b u ≡ drop b w
-unfolding within
-only-rest a e w u h o b k =
-    sym (take-all (length w - b) (drop b u) (omega (arith, length-drop b u, o .long)))
-    ∙ only-after a e w h u o b (length w) k
-    ∙ take-all (length w - b) (drop b w) (omega (arith, length-drop b w))
 
 module _ (n : ℕ) (u : List ℕ) (h : 32 * n + 8192 ≤ length u) (v : List ℕ) (o : Only (24 * n) (24 * n + n) u v) where
   log-fits : Fits (24 * n) (24 * n + n) u
@@ -192,7 +183,7 @@ module _ (s : Setup) (t : State) (vs : List Float) (lens b u : List ℕ) (w o : 
 
         module _ (g : a .worth ≡ true) where
           wall-same : wallIn s w₁ ≡ wallIn s w
-          wall-same = only-before (5 * size) (23 * size) w place w₁ W 0 size (omega arith) (omega arith)
+          wall-same = wall-kept s vs lens (run 0 size b) w F (5 * size) (23 * size) (omega arith) (omega arith) (omega arith) w₁ W
 
           logged : Logged l (a .removed) size
           logged = subst (Logged l (a .removed)) map-long (subst (λ (c : Outcome). Logged (c .log) (c .attempt .removed) (length (run 0 size b))) (sym is-tried)
@@ -205,12 +196,7 @@ module _ (s : Setup) (t : State) (vs : List Float) (lens b u : List ℕ) (w o : 
           -- what going there and keeping the pass asks
           pub go-asks : Fitted s vs lens (run 0 size b₁) w₁ × (Lends size b₁ u₁ × (Logged (run 24 size u₁) (a .removed) size × (Listed rows o₁ done (a .points) × (1 ≤ a .points))))
           go-asks = (
-            record {
-              walls = subst (λ (x : List Float). Walls s x vs lens) (sym wall-same) (F .walls);
-              over = subst (λ (x : List ℕ). Over (s .grid) (length (run 0 size x))) (sym b-same) (F .over);
-              rim = subst (Rim (samplesOf (s .samples))) (sym (only-after (5 * size) (23 * size) w place w₁ W (32 * size) (32 * size + 4096) (omega arith))) (F .rim);
-              long = omega (arith, F .long, W .long);
-            },
+            subst (λ (x : List ℕ). Fitted s vs lens (run 0 size x) w₁) (sym b-same) (fitted-kept s vs lens (run 0 size b) w F (5 * size) (23 * size) (omega arith) (omega arith) (omega arith) w₁ W),
             (
               record { bytes = omega (arith, L .bytes, ap length b-same); words = omega (arith, L .words, log-only .long) },
               (

@@ -1,138 +1,40 @@
--- What the tries keep, for their callers; then what the proofs of `tries` cite. Assumes nothing.
+-- What the proofs of `tries` cite, over plain values. Assumes nothing.
 use mathlib.Core.Path.{_≡_, refl, sym, ap, _∙_, subst}
 use mathlib.Core.Bool.{Bool, true, false, cond, _||_}
 use mathlib.Core.List.{List, [], _++_}
-use mathlib.Core.Option.{Option, none, some}
+use mathlib.Core.Option.{Option, some}
 use Prim.Native.Nat.{ℕ, _+_, _-_, _*_, _/_, _%_, _≤_, _<_}
 use native.Mathlib.Omega.{arith}
 use native.Mathlib.Nat.{mul-pos, mod-eq-of-lt}
 use lib.ListN.{length, take, drop}
 use lib.Ieee.{Float}
-use lib.Dec.{ltb}
-use borrow.Author.Tests.{ltb-false, not-true}
-use Rattle.loops.specs.Loop.{loop, Run, on, out, turn}
+use Rattle.loops.specs.Loop.{Run, on, out, turn}
 use Rattle.loops.specs.Regions.{Fits, within, put}
-use Rattle.loops.proofs.Cases.{by-test, never, neither}
-use Rattle.loops.proofs.LoopLaws.{loop-keeps, Going, going-none, going-on, going-out, going-end}
-use Rattle.loops.proofs.RegionLaws.{put-back, put-length}
+use Rattle.loops.proofs.LoopLaws.{Going, going-none, going-on, going-out, going-end}
 use Rattle.geom.specs.Points.{points}
 use Rattle.geom.specs.declared.vec2.Vec2.{Vec2}
 use Rattle.geom.proofs.PointLaws.{points-length}
-use Rattle.raster.specs.Grid.{Over}
 use Rattle.raster.specs.Contact.{samplesOf, Rim}
-use Rattle.raster.specs.Log.{st, Ready, Logged}
+use Rattle.raster.specs.Log.{st, Ready}
 use Rattle.setup.specs.Layout.{most, guideFrom, rimFrom}
 use Rattle.setup.specs.Place.{Walls, allowedAt, freeAt}
 use Rattle.setup.specs.declared.Setup.{Setup}
-use Rattle.links.specs.Frame.{Only}
+use Rattle.loops.specs.Frame.{Only}
 use Rattle.links.specs.Path.{wallIn, Fitted}
-use Rattle.links.proofs.FrameLaws.{only-same, only-more, only-before, only-after, only-wider}
+use Rattle.links.proofs.LinkLaws.{wall-kept, fitted-kept}
+use Rattle.loops.proofs.FrameLaws.{put-only, only-same, only-more, only-before, only-wider}
 use Rattle.events.specs.Events.{Event}
 use Rattle.passes.specs.Shifts.{satAdd}
-use Rattle.passes.specs.Simulate.{Pass, simulateOf}
-use Rattle.passes.specs.Guide.{totalOf, walkOf, blendOf, flat, pointsIn, bentOr}
-use Rattle.passes.specs.Worth.{wantedOf, spotsFrom, worthOf}
+use Rattle.passes.specs.Guide.{walkOf, blendOf, flat, pointsIn, bentOr}
 use Rattle.passes.specs.Start.{nearOf, startOf}
-use Rattle.passes.specs.Attempt.{Outcome, att, oc, judgedBy, outcomeOf, startBy, Spread}
+use Rattle.passes.specs.Attempt.{Outcome, att, oc, startBy, Spread}
 use Rattle.passes.specs.declared.attempt.Attempt.{Attempt}
 use Rattle.passes.specs.declared.start.Place.{Place}
-use Rattle.passes.proofs.BlendLaws.{blend-length}
-use Rattle.passes.proofs.KeepLaws.{Ran, simulate-ran, ran-kept, ran-logged}
+use Rattle.passes.proofs.PieceLaws.{bent-long}
 use Rattle.passes.proofs.LayLaws.{flat-length, walk-length, part-half}
 use Rattle.passes.proofs.StartLaws.{near-below, start-below}
-use Rattle.passes.proofs.WorthLaws.{spots-length}
-use Rattle.cutting.specs.Tries.{startsOf, startAt, guideLong, guideOf, Tries, ts, worked, tryEvents, triedEnd, guideAt, tryStep, triesOf, Among}
-
--- ---- what a try keeps, whatever it found
-
-pub record Sound (kept : ℕ) (m l : List ℕ) (o : List Float) (c : Outcome) : Type 0 where
-  pub log-long : length (c .log) ≡ length l
-  pub long : length (c .out) ≡ length o
-  pub logged : Logged (c .log) (c .attempt .removed) (length m)
-  pub room : c .attempt .full ≡ false → c .attempt .worth ≡ true → ((kept + c .attempt .points) * 3 ≤ length o) × (2 ≤ c .attempt .points)
-
-worth-two : (cell : Float) (pts : List Vec2) (removed : ℕ) → worthOf cell pts removed ≡ true → 2 ≤ length pts
-unfolding worthOf
-worth-two cell pts removed e = ltb-false (length pts) 2 (neither (ltb removed (wantedOf (totalOf pts) cell)) (ltb (length pts) 2) (not-true _ e) .1)
-
--- the log and the triples may be those that an earlier try left
-module _ (s : Setup) (allowed : Vec2 → Bool) (kept : ℕ) (m l₀ : List ℕ) (o₀ : List Float) (R : Ready (st m l₀ 0)) (l : List ℕ) (o : List Float) (L : length l ≡ length l₀) (O : length o ≡ length o₀) where
-  ready-still : Ready (st m l 0)
-  ready-still = record { room = omega (arith, R .room); small = R .small }
-
-  sound-none : Sound kept m l₀ o₀ (oc l o (att false false 0 0 0))
-  sound-none = record {
-    log-long = L;
-    long = O;
-    logged = record { within = omega arith; cell = λ i h. absurd (let z : ⊥ = omega arith in z) };
-    room = λ f w. never w;
-  }
-
-  sound-pass : (pts : List Vec2) → Sound kept m l₀ o₀ (outcomeOf s allowed pts kept m l o)
-  unfolding outcomeOf judgedBy
-  sound-pass pts =
-      let p : Pass = simulateOf s allowed pts kept m l o in
-      let h : Ran s kept m l o p = simulate-ran s allowed kept m l o pts in
-      let k = ran-kept s kept m l o ready-still p h in
-      let n = h .long in
-      record {
-        log-long = k .log-long ∙ L;
-        long = h .long ∙ O;
-        logged = subst (Logged (p .log) (p .trial .removed)) (k .cells-long) (ran-logged s kept m l o ready-still p h);
-        room = λ f w.
-            let r = h .room f in
-            let two = worth-two (s .grid .cell) (spotsFrom (p .out) kept (p .trial .points)) (p .trial .removed) (sym (ap (λ (b : Bool). cond b false (worthOf (s .grid .cell) (spotsFrom (p .out) kept (p .trial .points)) (p .trial .removed))) f) ∙ w) in
-            (omega arith, omega (arith, spots-length (p .out) kept (p .trial .points)));
-      }
-
-  sound-start : (g : Option (List Vec2)) → Sound kept m l₀ o₀ (startBy s allowed g kept m l o)
-  unfolding startBy
-  sound-start none = sound-none
-  sound-start (some pts) = sound-pass pts
-
-module _ (s : Setup) (allowed : Vec2 → Bool) (pts : List Vec2) (closed : Bool) (pos : Place) (kept : ℕ) (m l : List ℕ) (o : List Float) (R : Ready (st m l 0)) where
-  abbrev Still : Run Tries Tries → Type 0
-  Still (on t) = Sound kept m l o (t .outcome)
-  Still (out t) = Sound kept m l o (t .outcome)
-
-  sound-worked : (c : Outcome) (w : ℕ) → Sound kept m l o c → Sound kept m l o (oc (c .log) (c .out) (worked w (c .attempt)))
-  sound-worked c w q = record { log-long = q .log-long; long = q .long; logged = q .logged; room = q .room }
-
-  still-step : (k : ℕ) (r : Run Tries Tries) → Still r → Still (turn (tryStep s allowed pts closed pos kept m) k r)
-  unfolding turn tryStep
-  still-step k (out t) h = h
-  still-step k (on t) h =
-      let c : Outcome = t .outcome in
-      let g : Option (List Vec2) = guideAt s allowed pts closed pos kept m k in
-      let r : Outcome = startBy s allowed g kept m (c .log) (c .out) in
-      let q = sound-worked r (c .attempt .work) (sound-start s allowed kept m l o R (c .log) (c .out) (h .log-long) (h .long) g) in
-      let u : Tries = ts (oc (r .log) (r .out) (worked (c .attempt .work) (r .attempt))) (t .events ++ tryEvents kept g r) in
-      by-test Still (r .attempt .full || r .attempt .worth) (out u) (on u) (λ e. q) (λ e. q)
-
-  still-loop : (e : ℕ) → Still (loop (turn (tryStep s allowed pts closed pos kept m)) 0 e (on (ts (oc l o (att false false 0 0 0)) [])))
-  still-loop e = loop-keeps (turn (tryStep s allowed pts closed pos kept m)) 0 Still e (λ i r b c g. still-step i r g) (on (ts (oc l o (att false false 0 0 0)) [])) (sound-none s allowed kept m l o R l o refl refl)
-
-  still-end : (r : Run Tries Tries) → Still r → Sound kept m l o (triedEnd r .outcome)
-  unfolding triedEnd
-  still-end (on t) h = h
-  still-end (out t) h = h
-
-  tries-sound : Sound kept m l o (triesOf s allowed pts closed pos kept m l o .outcome)
-  unfolding triesOf
-  tries-sound = still-end _ (still-loop (startsOf closed))
-
-  pub tries-log-long : length (triesOf s allowed pts closed pos kept m l o .outcome .log) ≡ length l
-  tries-log-long = tries-sound .log-long
-
-  pub tries-long : length (triesOf s allowed pts closed pos kept m l o .outcome .out) ≡ length o
-  tries-long = tries-sound .long
-
-  pub tries-logged : let c = triesOf s allowed pts closed pos kept m l o .outcome in Logged (c .log) (c .attempt .removed) (length m)
-  tries-logged = tries-sound .logged
-
-  -- a pass that is worth it has two points or more, and its triples fit
-  pub tries-room : let a = triesOf s allowed pts closed pos kept m l o .outcome .attempt in a .full ≡ false → a .worth ≡ true → ((kept + a .points) * 3 ≤ length o) × (2 ≤ a .points)
-  tries-room f w = tries-sound .room f w
+use Rattle.cutting.specs.Tries.{startsOf, startAt, guideLong, guideOf, Tries, ts, tryEvents, triedEnd, guideAt, tryStep, triesOf, Among}
+use Rattle.cutting.proofs.TriesKeep.{Sound, Still, still-loop}
 
 -- ---- the starts
 
@@ -174,15 +76,6 @@ module _ (pts : List Vec2) (m : ℕ) (P : length pts ≡ m) (h : 1 ≤ m) (pos :
   start-round false near N k l start S = let y : start ≡ 0 = S ∙ ap (λ (i : ℕ). startOf i m k) N ∙ first-open m k h l in omega arith
 
 -- ---- a try in the workspace
-
-put-only : {A : Type 0} (a e : ℕ) (w r : List A) → Fits a e w → length r ≡ e - a → Only a e w (put a e r w)
-put-only a e w r h l = record { long = put-length a e w r h l; rest = ap (λ (x : List _). put a e x w) (sym (put-back a e w r h l)) }
-
--- the guide has as many points as were walked
-bent-long : (s : Setup) (allowed free : Vec2 → Bool) (pts : List Vec2) (b : Option (List Vec2)) → blendOf s allowed free pts ≡ b → length (bentOr pts b) ≡ length pts
-unfolding bentOr
-bent-long s allowed free pts none d = refl
-bent-long s allowed free pts (some l) d = blend-length s allowed free pts l d
 
 module _ (s : Setup) (vs : List Float) (lens mp : List ℕ) (w : List Float) (F : Fitted s vs lens mp w) (from m : ℕ) (A : Among (s .grid .ny * s .grid .nx) from m) where
   abbrev cells : ℕ
@@ -231,13 +124,13 @@ module _ (s : Setup) (vs : List Float) (lens mp : List ℕ) (w : List Float) (F 
         let hi = spread .high in
         let h : Fits at (at + 2 * long) w = record { start = omega arith; end = a } in
         let b : List Vec2 = bentOr trod (blendOf s (allowedAt s (within 0 n w) vs lens) (freeAt s mp) trod) in
-        let l : length (flat b) ≡ at + 2 * long - at = omega (arith, flat-length b, bent-long s (allowedAt s (within 0 n w) vs lens) (freeAt s mp) trod (blendOf s (allowedAt s (within 0 n w) vs lens) (freeAt s mp) trod) refl, walk-length (pointsIn from m w) start long) in
+        let l : length (flat b) ≡ at + 2 * long - at = omega (arith, flat-length b, bent-long s (allowedAt s (within 0 n w) vs lens) (freeAt s mp) trod long (walk-length (pointsIn from m w) start long) (blendOf s (allowedAt s (within 0 n w) vs lens) (freeAt s mp) trod) refl) in
         let c = some-cell in
         let lo = A .low in
         let to = A .high in
         let g = long-some m closed .1 in
         let f = F .long in
-        only-wider at (at + 2 * long) w w₁ h (subst (Only at (at + 2 * long) w) (sym W) (put-only at (at + 2 * long) w (flat b) h l)) (guideFrom cells) (23 * cells) (omega arith) (omega arith) (omega arith)
+        only-wider at (at + 2 * long) w w₁ h (subst (Only at (at + 2 * long) w) (sym W) (put-only at (at + 2 * long) w h (flat b) l)) (guideFrom cells) (23 * cells) (omega arith) (omega arith) (omega arith)
 
     -- the guide that was tried is that of the definition
     pub try-is : (kept : ℕ) (l : List ℕ) (o : List Float) (c : Outcome)
@@ -285,7 +178,7 @@ module _ (s : Setup) (vs : List Float) (lens m₀ l₀ : List ℕ) (w₀ o₀ : 
 
       module _ (mp l : List ℕ) (w o : List Float) (a : Attempt) (k : ℕ) (T : Trying mp l w o a k) where
         wall-same : wallIn s w ≡ wallIn s w₀
-        wall-same = only-before (guideFrom size) (23 * size) w₀ place w (T .only) 0 size (omega arith) (omega arith)
+        wall-same = wall-kept s vs lens m₀ w₀ F (guideFrom size) (23 * size) (omega arith) (omega arith) (omega arith) w (T .only)
 
         piece-same : pointsIn from m w ≡ pts
         piece-same = ap (points 0 m) (only-before (guideFrom size) (23 * size) w₀ place w (T .only) from (from + 2 * m) (omega arith) (A .high))
@@ -296,12 +189,7 @@ module _ (s : Setup) (vs : List Float) (lens m₀ l₀ : List ℕ) (w₀ o₀ : 
         module _ (h : k < startsOf closed) (start : ℕ) (S : start ≡ startOf near m k) where
           pub try-asks : Fitted s vs lens mp w × (Ready (st mp l 0) × (Among size from m × (start + guideLong m closed ≤ 2 * m)))
           try-asks = (
-            record {
-              walls = subst (λ (v : List Float). Walls s v vs lens) (sym wall-same) (F .walls);
-              over = subst (λ (v : List ℕ). Over (s .grid) (length v)) (sym (T .same)) (F .over);
-              rim = subst (Rim (samplesOf (s .samples))) (sym (only-after (guideFrom size) (23 * size) w₀ place w (T .only) (32 * size) (32 * size + 4096) (omega arith))) (F .rim);
-              long = omega (arith, F .long, T .only .long);
-            },
+            subst (λ (v : List ℕ). Fitted s vs lens v w) (sym (T .same)) (fitted-kept s vs lens m₀ w₀ F (guideFrom size) (23 * size) (omega arith) (omega arith) (omega arith) w (T .only)),
             (
               subst (λ (v : List ℕ). Ready (st v l 0)) (sym (T .same)) (record { room = omega (arith, R .room, sound .log-long); small = R .small }),
               (A, start-round pts m piece-long (A .some) pos closed near N k h start S),

@@ -1,15 +1,13 @@
 -- A start of a piece tried is legal events: a pass that is not worth it is withdrawn, and one that is stays on trial. Assumes nothing.
 use mathlib.Core.Path.{_≡_, refl, sym, ap, _∙_, subst}
-use mathlib.Core.Bool.{Bool, true, false, cond, not, true≢false}
+use mathlib.Core.Bool.{Bool, true, false, cond, true≢false}
 use mathlib.Core.List.{List, [], _∷_, _++_}
 use mathlib.Core.Option.{Option, none, some}
 use Prim.Native.Nat.{ℕ, zero, suc, _+_, _≤_}
 use native.Mathlib.Omega.{arith}
 use lib.ListN.{length}
-use lib.Dec.{ltb}
 use lib.Ieee.{Float}
-use borrow.Author.Tests.{ltb-false}
-use Rattle.loops.proofs.Cases.{never, neither}
+use Rattle.loops.proofs.Cases.{never}
 use Rattle.geom.specs.declared.vec2.Vec2.{Vec2}
 use Rattle.raster.specs.Log.{Stock, st, Ready}
 use Rattle.raster.proofs.LogLaws.{Kept}
@@ -20,12 +18,12 @@ use Rattle.events.specs.Replay.{BeginsGood}
 use Rattle.events.specs.Events.{Event, tried, withdrawn, State, state, step, steps, PassChecked, OnTrial, Checked, LegalFrom}
 use Rattle.events.specs.Read.{pointAt, pointsFrom}
 use Rattle.passes.specs.Simulate.{Pass, simulateOf}
-use Rattle.passes.specs.Guide.{totalOf, blendOf}
-use Rattle.passes.specs.Worth.{wantedOf, spotsFrom, worthOf}
+use Rattle.passes.specs.Guide.{blendOf}
+use Rattle.passes.specs.Worth.{spotsFrom, worthOf}
 use Rattle.passes.specs.Attempt.{Outcome, judgedBy, outcomeOf, startBy}
 use Rattle.passes.specs.Tried.{jobFor, Measured}
 use Rattle.passes.proofs.KeepLaws.{simulate-ran, ran-kept}
-use Rattle.passes.proofs.WorthLaws.{spots-length}
+use Rattle.passes.proofs.WorthLaws.{worth-points}
 use Rattle.passes.proofs.TriedLaws.{Tried, tried-step}
 use Rattle.passes.proofs.PieceLaws.{blend-tried, tried-withdrawn}
 use Rattle.cutting.specs.Tries.{tryEvents}
@@ -36,17 +34,6 @@ first-point o a zero = ap (λ (k : ℕ). pointAt o k ∷ []) (let z : a + 0 ≡ 
 first-point o a (suc n) =
     ap (λ (l : List Point). l ++ (pointAt o (a + suc n) ∷ [])) (first-point o a n)
     ∙ ap (λ (k : ℕ). pointAt o a ∷ (pointsFrom o (a + 1) n ++ (pointAt o k ∷ []))) (let z : a + suc n ≡ a + 1 + n = omega arith in z)
-
--- a pass that is worth it has two points at least
-pub worth-points : (cell : Float) (o : List Float) (a n removed : ℕ) → worthOf cell (spotsFrom o a n) removed ≡ true → 2 ≤ n
-unfolding worthOf
-worth-points cell o a n removed e =
-    let d = neither (ltb removed (wantedOf (totalOf (spotsFrom o a n)) cell)) (ltb (length (spotsFrom o a n)) 2) (opposite _ e) in
-    omega (arith, spots-length o a n, ltb-false (length (spotsFrom o a n)) 2 (d .1))
-  where
-    opposite : (b : Bool) → not b ≡ true → b ≡ false
-    opposite true h = never h
-    opposite false h = refl
 
 -- ---- what tries leave
 

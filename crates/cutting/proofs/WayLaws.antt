@@ -1,17 +1,17 @@
 -- What the proof of `way_to` cites, over plain values. Assumes nothing.
-use mathlib.Core.Path.{_≡_, refl, sym, ap, _∙_}
+use mathlib.Core.Path.{_≡_, sym, ap, _∙_}
 use mathlib.Core.Bool.{Bool, true, false, cond}
 use mathlib.Core.List.{List}
-use Prim.Native.Nat.{ℕ, _*_, _+_, _≤_}
+use Prim.Native.Nat.{ℕ, _*_, _≤_}
 use native.Mathlib.Omega.{arith}
 use lib.ListN.{length}
 use lib.Ieee.{Float}
 use Rattle.geom.specs.declared.vec2.Vec2.{Vec2}
 use Rattle.setup.specs.declared.Setup.{Setup}
-use Rattle.links.specs.Frame.{Only}
+use Rattle.loops.specs.Frame.{Only}
 use Rattle.links.specs.Path.{lost, wallIn, Fitted}
 use Rattle.links.specs.Link.{Linked, linked, linkPath, linkedIn, noRoute}
-use Rattle.links.proofs.FrameLaws.{only-same}
+use Rattle.loops.proofs.FrameLaws.{only-same}
 use Rattle.passes.specs.declared.start.Place.{Place}
 use Rattle.passes.specs.declared.start.Place.the-variants.{At, Nowhere}
 use Rattle.cutting.specs.Way.{routeOf}

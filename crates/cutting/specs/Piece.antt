@@ -14,14 +14,12 @@ use Rattle.setup.specs.Layout.{run, putRun, segmentsFrom, logFrom}
 use Rattle.setup.specs.Place.{allowedAt}
 use Rattle.setup.specs.declared.Setup.{Setup}
 use Rattle.links.specs.Path.{Way, lost, way}
-use Rattle.links.specs.Link.{Linked}
 use Rattle.events.specs.Chunk.{Point, Chunk, cut}
 use Rattle.events.specs.Events.{Event, linked, plunged, noWay, kept, withdrawn}
 use Rattle.events.specs.Lent.{allTriples, rowsFrom, gapTriples, putRows}
 use Rattle.events.specs.Read.{spotAt, pointsFrom}
 use Rattle.passes.specs.Shifts.{satAdd}
 use Rattle.passes.specs.Attempt.{Outcome}
-use Rattle.passes.specs.declared.attempt.Attempt.{Attempt}
 use Rattle.passes.specs.declared.start.Place.{Place}
 use Rattle.passes.specs.declared.start.Place.the-variants.{At, Nowhere}
 use Rattle.cutting.specs.Tries.{Tries, triesOf}

@@ -8,7 +8,7 @@ ghost use Rattle.geom.specs.Points.{points};
 ghost use Rattle.raster.specs.Grid.{Sides};
 ghost use Rattle.raster.specs.Log.{undone, redone, Logged};
 ghost use Rattle.setup.specs.Layout.{most, run, putRun};
-ghost use Rattle.links.specs.Frame.{Only};
+ghost use Rattle.loops.specs.Frame.{Only};
 ghost use Rattle.links.specs.Path.{way, lost, wallIn, Fitted};
 ghost use Rattle.passes.specs.Guide.{pointsIn};
 ghost use Rattle.cutting.specs.Tries.{Among};

@@ -6,7 +6,7 @@ ghost use lib.ListN.{length};
 ghost use Rattle.raster.specs.Log.{st, Ready};
 ghost use Rattle.setup.specs.Layout.{most, guideFrom};
 ghost use Rattle.setup.specs.Place.{allowedAt, freeAt};
-ghost use Rattle.links.specs.Frame.{Only};
+ghost use Rattle.loops.specs.Frame.{Only};
 ghost use Rattle.links.specs.Path.{wallIn, Fitted};
 ghost use Rattle.passes.specs.Guide.{pointsIn, blendOf};
 ghost use Rattle.passes.specs.Start.{nearOf};

@@ -3,7 +3,7 @@ ghost use mathlib.Core.Path.{_≡_};
 ghost use Prim.Native.Nat.{_*_, _≤_};
 ghost use lib.ListN.{length};
 ghost use Rattle.raster.specs.Grid.{Over};
-ghost use Rattle.links.specs.Frame.{Only};
+ghost use Rattle.loops.specs.Frame.{Only};
 ghost use Rattle.links.specs.Path.{wallIn, Fitted};
 ghost use Rattle.links.specs.Link.{linkedIn};
 ghost use Rattle.cutting.specs.Way.{routeOf};

@@ -13,6 +13,7 @@ use Rattle.numbers.specs.Order.{maxOf, isFinite}
 use Rattle.numbers.specs.Whole.{floorOf, ceilOf}
 use Rattle.numbers.specs.Root.{rootOf}
 use Rattle.numbers.specs.Circle.{cosOf, sinOf, cosSeries, sinSeries}
+use Rattle.numbers.specs.Small.{f1}
 use Rattle.geom.specs.Vec.{v2, f0, sum, scaled, lerpOf, squareOf, distanceOf, fromAngle}
 use Rattle.geom.specs.declared.vec2.Vec2.{Vec2}
 use Rattle.raster.specs.Grid.{onGrid, cellOf, stockAt}
@@ -22,7 +23,7 @@ use Rattle.raster.specs.Stock.{dropCell, clearDisk, tally, countDisk}
 use Rattle.raster.specs.Log.{clearCell, clearAfter, undone, redone, passes}
 use Rattle.raster.specs.Contact.{samplesOf, directionAt, rimAt, hitAt, hitsOf, angleOf, engagementOf}
 use Rattle.events.specs.Chunk.{Point, Job}
-use Rattle.events.specs.Judges.{f1, freeOn, contactOn, stepsOf, sampleClear, linkClearOn, jobOf}
+use Rattle.events.specs.Judges.{freeOn, contactOn, stepsOf, sampleClear, linkClearOn, jobOf}
 use Rattle.events.specs.Replay.{lastOf, helixEnd}
 use Rattle.events.specs.Events.{Event, entered, tried, withdrawn, noWay, linked, kept, begin, cutsFrom, cutsOf, step, steps, after, Legal, Fit}
 use Rattle.events.specs.Told.{Demand3}

@@ -4,10 +4,11 @@ use Prim.Native.Nat.{ℕ, _+_}
 use mathlib.Core.Bool.{Bool, false, cond, not, _&&_}
 use mathlib.Core.List.{List}
 use lib.Dec.{eqb, ltb}
-use lib.Ieee.{Float, binary64, ofBits, toUnsigned, add, sub, mul, div, eq}
+use lib.Ieee.{Float, binary64, toUnsigned, add, sub, mul, div, eq}
 use Rattle.loops.specs.Loop.{any}
 use Rattle.numbers.specs.Order.{maxOf}
 use Rattle.numbers.specs.Whole.{ceilOf}
+use Rattle.numbers.specs.Small.{f1, quarter}
 use Rattle.geom.specs.Vec.{f0, lerpOf, distanceOf}
 use Rattle.geom.specs.declared.vec2.Vec2.{Vec2}
 use Rattle.raster.specs.Grid.{float}
@@ -15,12 +16,6 @@ use Rattle.raster.specs.Stock.{countDisk}
 use Rattle.raster.specs.Contact.{engagementOf}
 use Rattle.raster.specs.declared.grid.Grid.{Grid}
 use Rattle.events.specs.Chunk.{Job}
-
-abbrev pub f1 : Float
-f1 = ofBits binary64 0x3ff0_0000_0000_0000
-
-abbrev pub quarter : Float
-quarter = ofBits binary64 0x3fd0_0000_0000_0000
 
 module _ (g : Grid) (r : Float) (samples : ℕ) (allowed : Vec2 → Bool) where
   -- no stock cell lies in the tool's disk

@@ -23,7 +23,8 @@ use Rattle.field.specs.Gauge.{Sensing}
 use Rattle.field.specs.Round.{squaresPut, stockPut, nearPut, Begun, Ready, rowsIn, Rowed, roundOf, Done}
 use Rattle.field.specs.declared.gauge.Gauge.{Gauge}
 use Rattle.field.proofs.FieldLaws.{field-length}
-use Rattle.field.proofs.RoundLaws.{part-is, part-long, run-long, back-is, wide-cells}
+use Rattle.setup.proofs.PartLaws.{part-is, part-long, run-long, back-is}
+use Rattle.field.proofs.RoundLaws.{wide-cells}
 
 -- ---- the rows, over parts
 

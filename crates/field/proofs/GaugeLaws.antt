@@ -8,6 +8,7 @@ use lib.Dec.{eqb}
 use lib.Ieee.{Float, binary64, add, mul, div, lt}
 use Rattle.loops.specs.Cells.{number}
 use Rattle.numbers.specs.Narrow.{narrowOf}
+use Rattle.numbers.specs.Small.{f2}
 use Rattle.geom.specs.declared.vec2.Vec2.{Vec2}
 use Rattle.distance.specs.Limits.{lengthOf, passesOf}
 use Rattle.distance.specs.Rooted.{distanceOf}
@@ -15,7 +16,6 @@ use Rattle.distance.specs.declared.limits.Bound.{Bound}
 use Rattle.raster.specs.Grid.{centerOf}
 use Rattle.raster.specs.Contact.{tau}
 use Rattle.setup.specs.Place.{contactAt}
-use Rattle.setup.specs.Limits.{f2}
 use Rattle.setup.specs.declared.Setup.{Setup}
 use Rattle.field.specs.Field.{f3h, s0, highOf, lowOf, reachOf, value, valueOf, valueAt, wantedAt, sensed, putValue, fieldCell}
 use Rattle.field.specs.Gauge.{bound, TestOf, Gauged}

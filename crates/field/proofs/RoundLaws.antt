@@ -15,12 +15,13 @@ use Rattle.loops.proofs.LoopLaws.{loop-both}
 use Rattle.loops.specs.Loop.{loop}
 use Rattle.loops.specs.Regions.{within, put}
 use Rattle.loops.proofs.Cases.{by-cases}
-use Rattle.loops.proofs.RegionLaws.{region-long, put-is}
+use Rattle.loops.proofs.RegionLaws.{put-is}
 use Rattle.distance.specs.Nearest.{listed, transformOf}
 use Rattle.distance.proofs.NearestLaws.{listed-long, listed-at}
 use Rattle.raster.specs.Grid.{Sides}
 use Rattle.raster.specs.declared.grid.Grid.{Grid}
-use Rattle.setup.specs.Layout.{run, putRun}
+use Rattle.setup.specs.Layout.{putRun}
+use Rattle.setup.proofs.PartLaws.{part-long, back-is}
 use Rattle.field.specs.Round.{squaresPut, nearPut, Begun}
 
 -- ---- a loop that writes each place
@@ -57,26 +58,6 @@ module _ {A : Type 0} (d : A) (g : ℕ → A) where
       let w = written (length l) l (omega arith) in
       ext-getD d (loop writeAt 0 (length l) l) (listed (length l) g) (w .long ∙ sym (listed-long g d (length l)))
       (λ i b. let h : i < length l = subst (λ (n : ℕ). i < n) (w .long) b in w .at i h ∙ sym (listed-at g d (length l) i h))
-
--- ---- parts
-
-module _ {A : Type 0} where
-  pub part-is : (k n a e : ℕ) (w : List A) → a ≡ k * n → e ≡ a + n → take (e - a) (drop a w) ≡ run k n w
-  unfolding within
-  part-is k n a e w p q =
-      ap (λ (z : ℕ). take (z - a) (drop a w)) q ∙ ap (λ (z : ℕ). take (z + n - z) (drop z w)) p
-
-  pub part-long : (k n a e : ℕ) (w : List A) → a ≡ k * n → e ≡ a + n → k * n + n ≤ length w → length (take (e - a) (drop a w)) ≡ n
-  part-long k n a e w p q h = region-long a e w (record { start = omega arith; end = omega arith }) ∙ (let z : e - a ≡ n = omega arith in z)
-
-  pub run-long : (k n : ℕ) (w : List A) → k * n + n ≤ length w → length (run k n w) ≡ n
-  unfolding within
-  run-long k n w h = part-long k n (k * n) (k * n + n) w refl refl h
-
-  pub back-is : (k n a e : ℕ) (w r : List A) → a ≡ k * n → e ≡ a + n → k * n + n ≤ length w → putMid a (e - a) w r ≡ putRun k n r w
-  back-is k n a e w r p q h =
-      put-is a e w (record { start = omega arith; end = omega arith }) r r refl
-      ∙ ap (λ (z : ℕ). put a z r w) q ∙ ap (λ (z : ℕ). put z (z + n) r w) p
 
 -- ---- the steps of a round
 

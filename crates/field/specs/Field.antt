@@ -8,22 +8,15 @@ use lib.Dec.{eqb}
 use lib.Ieee.{Float, nan, binary32, binary64, ofBits, add, sub, mul, div, lt, le}
 use Rattle.loops.specs.Loop.{loop}
 use Rattle.loops.specs.Cells.{number}
-use Rattle.numbers.specs.Circle.{cosOf}
 use Rattle.numbers.specs.Narrow.{narrowOf}
+use Rattle.numbers.specs.Small.{f2, f3}
 use Rattle.distance.specs.Rooted.{distanceOf}
 use Rattle.distance.specs.Nearest.{squaresOf}
 use Rattle.raster.specs.Grid.{centerOf}
 use Rattle.raster.specs.Contact.{tau}
-use Rattle.setup.specs.Limits.{f2}
-use Rattle.setup.specs.Place.{contactAt}
+use Rattle.setup.specs.Place.{contactAt, biteOf}
 use Rattle.setup.specs.declared.Setup.{Setup}
 use Rattle.field.specs.declared.gauge.Value.{Value}
-
-abbrev pub f1 : Float
-f1 = ofBits binary64 0x3ff0_0000_0000_0000
-
-abbrev pub f3 : Float
-f3 = ofBits binary64 0x4008_0000_0000_0000
 
 -- 1.5
 abbrev pub f3h : Float
@@ -37,10 +30,6 @@ abbrev pub s1 : Float
 s1 = ofBits binary32 0x3f80_0000
 
 -- ---- what a round fixes
-
--- r * (1.0 - target.cos())
-unfoldable pub biteOf : Setup → Float
-biteOf s = mul binary64 (s .r) (sub binary64 f1 (cosOf (s .target)))
 
 -- r - bite - 3.0 * c: nearer to stock than this, the whole rim is over it
 unfoldable pub lowOf : Setup → Float

@@ -49,7 +49,7 @@ fn test_of(b: Bound) -> Test
 fn low_of(s: Setup) -> f64
     ensures { λ x. ⌜ x ≡ lowOf s ⌝ }
 {
-    let bite = s.r * (1.0 - numbers::circle::cos(s.target));
+    let bite = setup::place::bite_of(s);
     let c = s.grid.cell;
     s.r - bite - 3.0 * c
 }

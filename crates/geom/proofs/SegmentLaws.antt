@@ -1,5 +1,5 @@
 -- What the proofs of `segment` cite. Assumes nothing.
-use mathlib.Core.Path.{_≡_, sym, ap, _∙_}
+use mathlib.Core.Path.{_≡_, _∙_}
 use mathlib.Core.Bool.{Bool, true, false}
 use mathlib.Core.List.{List}
 use Prim.Native.Nat.{ℕ, _+_}
@@ -10,9 +10,10 @@ use Rattle.floats.proofs.SquareLaws.{squares-unsigned}
 use Rattle.numbers.specs.Root.{rootOf}
 use Rattle.numbers.specs.Bound.{Square}
 use Rattle.numbers.specs.Order.{clampOf}
+use Rattle.numbers.specs.Small.{f1}
 use Rattle.geom.specs.Vec.{f0, sum, difference, scaled, dotOf, squareOf}
 use Rattle.geom.specs.Region.{vertexOf, after, sizeOf, startOf}
-use Rattle.geom.specs.Segment.{tiny, f1, along, segSquare, segDistance, edgeWithin, loopWithin, within}
+use Rattle.geom.specs.Segment.{tiny, along, segSquare, segDistance, edgeWithin, loopWithin, within}
 use Rattle.geom.specs.declared.vec2.Vec2.{Vec2}
 use Rattle.geom.specs.declared.region.Region.{Region}
 

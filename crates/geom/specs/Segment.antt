@@ -6,6 +6,7 @@ use lib.Ieee.{Float, binary64, ofBits, div, lt}
 use Rattle.loops.specs.Loop.{any}
 use Rattle.numbers.specs.Root.{rootOf}
 use Rattle.numbers.specs.Order.{clampOf}
+use Rattle.numbers.specs.Small.{f1}
 use Rattle.geom.specs.Vec.{f0, sum, difference, scaled, dotOf, squareOf}
 use Rattle.geom.specs.Region.{vertexOf, after, sizeOf, startOf}
 use Rattle.geom.specs.declared.vec2.Vec2.{Vec2}
@@ -14,9 +15,6 @@ use Rattle.geom.specs.declared.region.Region.{Region}
 -- 1e-24
 abbrev pub tiny : Float
 tiny = ofBits binary64 0x3af3_57c2_99a8_8ea7
-
-abbrev pub f1 : Float
-f1 = ofBits binary64 0x3ff0_0000_0000_0000
 
 -- how far along the segment from a, which goes ab far, its point nearest to p lies
 unfoldable pub along : Vec2 → Vec2 → Vec2 → Float

@@ -15,6 +15,7 @@ use Rattle.loops.proofs.Cases.{by-test, both, never, neither}
 use Rattle.numbers.specs.Whole.{above, roundOf}
 use Rattle.numbers.specs.Order.{maxOf}
 use Rattle.numbers.proofs.GuardLaws.{max-ge-right}
+use Rattle.numbers.specs.Small.{f1}
 use Rattle.geom.specs.declared.vec2.Vec2.{Vec2}
 use Rattle.distance.specs.Limits.{lengthOf, LimitOf}
 use Rattle.distance.specs.declared.limits.Bound.{Bound}
@@ -28,7 +29,6 @@ use Rattle.links.specs.declared.NodeNo.{NodeNo}
 use Rattle.links.specs.declared.lattice.Lattice.{Lattice}
 use Rattle.links.specs.declared.lattice.Neighbour.{Neighbour}
 use Rattle.links.specs.declared.lattice.Neighbour.the-variants.{Off, At}
-use Rattle.links.specs.Straight.{f1}
 use Rattle.links.specs.Lattice.{f16, spacingOf, along, centreAt, nodeAt, latticeOf, nodes, columnOf, rowOf, cellOfNode, nodeFree, besideX, besideY, onLattice, besideOf, IsNode, Laid, boundOf, Limited}
 
 -- ---- places k apart

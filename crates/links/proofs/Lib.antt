@@ -5,7 +5,6 @@ pub mod SiftLaws
 pub mod HoldLaws
 pub mod StraightLaws
 pub mod LatticeLaws
-pub mod FrameLaws
 pub mod SearchLaws
 pub mod VisitLaws
 pub mod SeekLaws

@@ -34,14 +34,14 @@ use Rattle.links.specs.declared.search.Sought.{Sought}
 use Rattle.links.specs.declared.path.Kept.{Kept}
 use Rattle.links.specs.declared.path.Kept.the-variants.{Lost, Points}
 use Rattle.links.specs.declared.link.Route.{Route}
-use Rattle.links.specs.Frame.{Only}
+use Rattle.loops.specs.Frame.{Only}
 use Rattle.links.specs.Lattice.{latticeOf, nodes, Laid}
 use Rattle.links.specs.Search.{Search, Outcome, seekNext, seekStep, ended, started, seekOf, cells, squaresIn, Befores, outcomeIn}
 use Rattle.links.specs.Straight.{linkClear}
 use Rattle.links.specs.Path.{Way, lost, way, nodesOf, shortenOf, wallIn, pathIn, clearIn, Fitted, keptIn}
 use Rattle.links.specs.Link.{Linked, linked, aroundOf, betweenOf, linkPath, linkedIn, beforeIn, noRoute}
 use Rattle.links.proofs.LatticeLaws.{nodes-few, nodes-most}
-use Rattle.links.proofs.FrameLaws.{back-there, back-only, only-same, only-more, only-before, only-after, only-wider}
+use Rattle.loops.proofs.FrameLaws.{back-there, back-only, only-same, only-more, only-before, only-after, only-wider}
 use Rattle.links.proofs.SeekLaws.{sound-seek}
 use Rattle.links.proofs.LayLaws.{points-front}
 use Rattle.links.proofs.ShortenLaws.{fitted-only, path-long}
@@ -151,20 +151,21 @@ module _ (s : Setup) (vs : List Float) (lens m : List ℕ) (w : List Float) (F :
           there : Unit {0} → pathIn s w₁ ≡ r
           there _ = back-there (20 * size) (23 * size) w path r R
 
--- ---- what the search's part of w leaves of the others
+-- ---- what a change between the wall distances and the rim leaves of both
 
-module _ (s : Setup) (vs : List Float) (lens m : List ℕ) (w : List Float) (F : Fitted s vs lens m w) (w₁ : List Float) (O : Only (10 * (s .grid .ny * s .grid .nx)) (20 * (s .grid .ny * s .grid .nx)) w w₁) where
-  costs : Fits (10 * (s .grid .ny * s .grid .nx)) (20 * (s .grid .ny * s .grid .nx)) w
-  costs = record { start = omega arith; end = omega (arith, F .long) }
+module _ (s : Setup) (vs : List Float) (lens m : List ℕ) (w : List Float) (F : Fitted s vs lens m w) (a e : ℕ) (lo : s .grid .ny * s .grid .nx ≤ a) (mid : a ≤ e) (hi : e ≤ 32 * (s .grid .ny * s .grid .nx))
+    (w₁ : List Float) (O : Only a e w w₁) where
+  between : Fits a e w
+  between = record { start = mid; end = omega (arith, F .long) }
 
   pub wall-kept : wallIn s w₁ ≡ wallIn s w
-  wall-kept = only-before (10 * (s .grid .ny * s .grid .nx)) (20 * (s .grid .ny * s .grid .nx)) w costs w₁ O 0 (s .grid .ny * s .grid .nx) (omega arith) (omega arith)
+  wall-kept = only-before a e w between w₁ O 0 (s .grid .ny * s .grid .nx) (omega arith) lo
 
   pub fitted-kept : Fitted s vs lens m w₁
   fitted-kept = record {
     walls = subst (λ (q : List Float). Walls s q vs lens) (sym wall-kept) (F .walls);
     over = F .over;
-    rim = subst (Rim (samplesOf (s .samples))) (sym (only-after (10 * (s .grid .ny * s .grid .nx)) (20 * (s .grid .ny * s .grid .nx)) w costs w₁ O (32 * (s .grid .ny * s .grid .nx)) (32 * (s .grid .ny * s .grid .nx) + 4096) (omega arith))) (F .rim);
+    rim = subst (Rim (samplesOf (s .samples))) (sym (only-after a e w between w₁ O (32 * (s .grid .ny * s .grid .nx)) (32 * (s .grid .ny * s .grid .nx) + 4096) hi)) (F .rim);
     long = omega (arith, F .long, O .long);
   }
 
@@ -230,7 +231,7 @@ module _ (s : Setup) (vs : List Float) (lens m allowed : List ℕ) (w : List Flo
 
     pub trace-asks : Fitted s vs lens m wₛ × (Laid l × ((l .grid ≡ s .grid) × ((15 * cells l ≤ length u₁) × Befores (nodes l) (beforeIn l u₁))))
     trace-asks =
-        (fitted-kept s vs lens m w F wₛ costs-only, (L, (G, (omega (arith, same, Y .long), subst (Befores (nodes l)) (ap (λ (q : Outcome). q .before) (sym X)) (sound-seek l L allowed (squaresOf 1 m (l .grid .nx) (l .grid .ny)))))))
+        (fitted-kept s vs lens m w F (10 * (s .grid .ny * s .grid .nx)) (20 * (s .grid .ny * s .grid .nx)) (omega arith) (omega arith) (omega arith) wₛ costs-only, (L, (G, (omega (arith, same, Y .long), subst (Befores (nodes l)) (ap (λ (q : Outcome). q .before) (sym X)) (sound-seek l L allowed (squaresOf 1 m (l .grid .nx) (l .grid .ny)))))))
 
     module _ (from to : Vec2) where
       by : linked (cond (o .found) (shortenOf (linkClear s (wallIn s w) vs lens m) (nodesOf l (beforeIn l u₁) to) from) lost) (o .expanded * 8)
@@ -245,7 +246,7 @@ module _ (s : Setup) (vs : List Float) (lens m allowed : List ℕ) (w : List Flo
       module _ (e : o .found ≡ true) (k : Kept) (w₂ : List Float) (K : keptIn s k w₂ ≡ shortenOf (clearIn s vs lens m wₛ) (nodesOf l (beforeIn l u₁) to) from) (O : Only (20 * n) (23 * n) wₛ w₂) where
         found : linked (keptIn s k w₂) (o .expanded * 8) ≡ aroundOf s (wallIn s w) vs lens m allowed from to l
         found =
-            ap (λ (p : Way). linked p (o .expanded * 8)) (K ∙ ap (λ (wall : List Float). shortenOf (linkClear s wall vs lens m) (nodesOf l (beforeIn l u₁) to) from) (wall-kept s vs lens m w F wₛ costs-only))
+            ap (λ (p : Way). linked p (o .expanded * 8)) (K ∙ ap (λ (wall : List Float). shortenOf (linkClear s wall vs lens m) (nodesOf l (beforeIn l u₁) to) from) (wall-kept s vs lens m w F (10 * (s .grid .ny * s .grid .nx)) (20 * (s .grid .ny * s .grid .nx)) (omega arith) (omega arith) (omega arith) wₛ costs-only))
             ∙ sym (ap (λ (t : Bool). linked (cond t (shortenOf (linkClear s (wallIn s w) vs lens m) (nodesOf l (beforeIn l u₁) to) from) lost) (o .expanded * 8)) e)
             ∙ by
 

@@ -21,7 +21,7 @@ use Rattle.links.specs.Lattice.{nodes, centreOf, IsNode, Laid}
 use Rattle.links.specs.Search.{Search, st, entry, opened, reopened, improved, candidate, offerOf, searchIn, Ready, Grown}
 use Rattle.links.proofs.HoldLaws.{push-list, pop-list}
 use Rattle.links.proofs.LatticeLaws.{nodes-most}
-use Rattle.links.proofs.FrameLaws.{back-there, back-first}
+use Rattle.loops.proofs.FrameLaws.{back-there, back-first}
 
 -- ---- floats of a part
 

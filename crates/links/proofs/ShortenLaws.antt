@@ -20,10 +20,10 @@ use Rattle.setup.specs.declared.Setup.{Setup}
 use Rattle.links.specs.declared.path.Seen.{Seen}
 use Rattle.links.specs.declared.path.Seen.the-variants.{Nothing, Point}
 use Rattle.links.specs.declared.path.Kept.the-variants.{Lost, Points}
-use Rattle.links.specs.Frame.{Only}
+use Rattle.loops.specs.Frame.{Only}
 use Rattle.links.specs.Straight.{linkClear}
 use Rattle.links.specs.Path.{farthestOf, lost, way, onward, shortenFrom, pointIn, shortenOf, pathIn, clearIn, Fitted, keptIn}
-use Rattle.links.proofs.FrameLaws.{back-there, back-only, only-same, only-more, only-before, only-after}
+use Rattle.loops.proofs.FrameLaws.{back-there, back-only, only-same, only-more, only-before, only-after}
 
 -- ---- the farthest in view
 

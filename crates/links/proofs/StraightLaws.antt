@@ -8,13 +8,14 @@ use lib.Ieee.{Float, binary64, sub, div, toUnsigned, eq}
 use borrow.Author.Tests.{lt-ltb, le-ltb}
 use Rattle.numbers.specs.Whole.{ceilOf}
 use Rattle.numbers.specs.Order.{maxOf}
+use Rattle.numbers.specs.Small.{f1}
 use Rattle.geom.specs.Vec.{f0, distanceOf, lerpOf}
 use Rattle.geom.specs.declared.vec2.Vec2.{Vec2}
 use Rattle.raster.specs.Grid.{float}
 use Rattle.raster.specs.Stock.{countDisk}
 use Rattle.setup.specs.Place.{allowedAt, contactAt}
 use Rattle.setup.specs.declared.Setup.{Setup}
-use Rattle.links.specs.Straight.{f1, stepsOf, pointOf, clearAt, sampleClear, sampleBlocked, samplesClear, linkClear}
+use Rattle.links.specs.Straight.{stepsOf, pointOf, clearAt, sampleClear, sampleBlocked, samplesClear, linkClear}
 
 pub steps-are : (a b : Vec2) (cell d c m : Float) (n : ℕ) → d ≡ distanceOf a b → c ≡ ceilOf (div binary64 d cell) → m ≡ maxOf c f1 → n ≡ toUnsigned 64 m → n ≡ stepsOf a b cell
 unfolding stepsOf

@@ -16,10 +16,10 @@ use Rattle.links.specs.declared.NodeNo.{NodeNo}
 use Rattle.links.specs.declared.lattice.Lattice.{Lattice}
 use Rattle.links.specs.declared.lattice.Neighbour.{Neighbour}
 use Rattle.links.specs.declared.lattice.Neighbour.the-variants.{Off, At}
-use Rattle.links.specs.Frame.{Only}
+use Rattle.loops.specs.Frame.{Only}
 use Rattle.links.specs.Lattice.{nodes, nodeFree, besideOf, Laid}
 use Rattle.links.specs.Search.{Search, offerOf, reachable, visitAt, visitOf, searchIn, Ready, Grown, cells, squaresIn, wordsIn, Searching, Visited}
-use Rattle.links.proofs.FrameLaws.{back-there, back-only, only-same, only-more, only-before}
+use Rattle.loops.proofs.FrameLaws.{back-there, back-only, only-same, only-more, only-before}
 
 module _ (l : Lattice) (allowed squares : List ℕ) (t : NodeNo) where
   pub reach-goal : t .0 ≡ l .goal .0 → true ≡ reachable l allowed squares t

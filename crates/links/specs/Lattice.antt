@@ -8,6 +8,7 @@ use lib.ListN.{getD}
 use lib.Ieee.{Float, binary64, ofBits, sub, div, lt, toUnsigned}
 use Rattle.numbers.specs.Whole.{above, roundOf}
 use Rattle.numbers.specs.Order.{maxOf}
+use Rattle.numbers.specs.Small.{f1}
 use Rattle.geom.specs.declared.vec2.Vec2.{Vec2}
 use Rattle.distance.specs.Limits.{LimitOf}
 use Rattle.distance.specs.Rooted.{distanceOf}
@@ -17,7 +18,6 @@ use Rattle.raster.specs.Grid.{Sides, numbered, centerOf}
 use Rattle.raster.specs.declared.grid.Grid.{Grid}
 use Rattle.raster.specs.declared.grid.CellNo.{CellNo}
 use Rattle.setup.specs.declared.Setup.{Setup}
-use Rattle.links.specs.Straight.{f1}
 use Rattle.links.specs.declared.NodeNo.{NodeNo}
 use Rattle.links.specs.declared.lattice.Lattice.{Lattice}
 use Rattle.links.specs.declared.lattice.Neighbour.{Neighbour}

@@ -3,7 +3,6 @@ pub mod Heap
 pub mod Sift
 pub mod Straight
 pub mod Lattice
-pub mod Frame
 pub mod Search
 pub mod Path
 pub mod Link

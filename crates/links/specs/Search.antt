@@ -19,7 +19,7 @@ use Rattle.links.specs.declared.search.Sought.{Sought}
 use Rattle.links.specs.declared.search.Turn.{Turn}
 use Rattle.links.specs.declared.search.Turn.the-variants.{On, Out}
 use Rattle.links.specs.Heap.{insert, count, entryAt, listed, Ordered}
-use Rattle.links.specs.Frame.{Only}
+use Rattle.loops.specs.Frame.{Only}
 use Rattle.links.specs.Lattice.{nodes, centreOf, nodeFree, besideOf}
 
 -- the open entries are in order, the next to be taken first

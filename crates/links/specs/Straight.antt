@@ -3,19 +3,17 @@ use Prim.Native.Nat.{ℕ, _+_}
 use mathlib.Core.Bool.{Bool, false, not, _&&_, cond}
 use mathlib.Core.List.{List}
 use lib.Dec.{eqb, ltb}
-use lib.Ieee.{Float, binary64, ofBits, toUnsigned, sub, div, eq}
+use lib.Ieee.{Float, binary64, toUnsigned, sub, div, eq}
 use Rattle.loops.specs.Loop.{any}
 use Rattle.numbers.specs.Whole.{ceilOf}
 use Rattle.numbers.specs.Order.{maxOf}
+use Rattle.numbers.specs.Small.{f1}
 use Rattle.geom.specs.Vec.{f0, distanceOf, lerpOf}
 use Rattle.geom.specs.declared.vec2.Vec2.{Vec2}
 use Rattle.raster.specs.Grid.{float}
 use Rattle.raster.specs.Stock.{countDisk}
 use Rattle.setup.specs.Place.{allowedAt, contactAt}
 use Rattle.setup.specs.declared.Setup.{Setup}
-
-abbrev pub f1 : Float
-f1 = ofBits binary64 0x3ff0_0000_0000_0000
 
 -- a step for each cell of the way, at least one
 unfoldable pub stepsOf : Vec2 → Vec2 → Float → ℕ

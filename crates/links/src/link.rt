@@ -4,7 +4,7 @@ ghost use Prim.Native.Nat.{_*_, _≤_};
 ghost use lib.ListN.{length};
 ghost use Rattle.distance.specs.Nearest.{squaresOf};
 ghost use Rattle.raster.specs.Grid.{Over};
-ghost use Rattle.links.specs.Frame.{Only};
+ghost use Rattle.loops.specs.Frame.{Only};
 ghost use Rattle.links.specs.Lattice.{nodes, Laid};
 ghost use Rattle.links.specs.Search.{seekOf, cells, Befores, outcomeIn};
 ghost use Rattle.links.specs.Path.{nodesOf, shortenOf, wallIn, clearIn, Fitted, keptIn};

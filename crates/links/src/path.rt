@@ -6,7 +6,7 @@ ghost use lib.ListN.{length};
 ghost use Rattle.geom.specs.Region.{vertexOf};
 ghost use Rattle.geom.specs.Points.{putPoint, points};
 ghost use Rattle.raster.specs.Grid.{Sides};
-ghost use Rattle.links.specs.Frame.{Only};
+ghost use Rattle.loops.specs.Frame.{Only};
 ghost use Rattle.links.specs.Lattice.{nodes, Laid};
 ghost use Rattle.links.specs.Search.{Befores};
 ghost use Rattle.links.specs.Path.{nodesOf, farthestOf, shortenOf, pathIn, clearIn, Fitted, keptIn};

@@ -6,7 +6,7 @@ ghost use mathlib.Core.List.{_++_};
 ghost use Prim.Native.Nat.{_+_, _-_, _*_, _≤_, _<_};
 ghost use lib.ListN.{length, drop, replicate};
 ghost use Rattle.raster.specs.Grid.{Over};
-ghost use Rattle.links.specs.Frame.{Only};
+ghost use Rattle.loops.specs.Frame.{Only};
 ghost use Rattle.links.specs.Lattice.{nodes, IsNode, Laid, Limited};
 ghost use Rattle.links.specs.Search.{top, noNode, started, opened, reopened, improved, offerOf, reachable, visitOf, expandOf, seekStep, seekOf};
 ghost use Rattle.links.specs.Search.{searchIn, Ready, Grown, cells, squaresIn, wordsIn, Searching, Visited, Sound, outcomeIn, turnIn, Turned};

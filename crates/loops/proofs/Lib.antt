@@ -5,3 +5,4 @@ pub mod CellLaws
 pub mod SetLaws
 pub mod FillLaws
 pub mod EachLaws
+pub mod FrameLaws

@@ -3,3 +3,4 @@ pub mod Loop
 pub mod Regions
 pub mod Cells
 pub mod Each
+pub mod Frame

@@ -12,13 +12,12 @@ use Rattle.loops.proofs.Cases.{by-test, both}
 use Rattle.loops.proofs.LoopLaws.{loop-keeps}
 use Rattle.geom.specs.Vec.{f0}
 use Rattle.geom.specs.declared.vec2.Vec2.{Vec2}
-use Rattle.setup.specs.Place.{freeAt}
+use Rattle.setup.specs.Place.{freeAt, biteOf}
 use Rattle.setup.specs.declared.Setup.{Setup}
 use Rattle.events.specs.Judges.{freeOn}
 use Rattle.events.specs.Replay.{BeginsGood}
 use Rattle.passes.specs.declared.guide.Blend.{Blend}
 use Rattle.passes.specs.declared.guide.Blend.the-variants.{By, Nothing}
-use Rattle.passes.specs.Shifts.{biteOf}
 use Rattle.passes.specs.Simulate.{nowhere}
 use Rattle.passes.specs.Guide.{Bend, bd, bendStep, bentEnd, bentOf, farOf, lenOf, attempt, chosen, chooseOf, blended, blendOf}
 use Rattle.passes.specs.Tried.{jobFor}

@@ -14,19 +14,18 @@ use Rattle.loops.proofs.Cases.{by-cases, by-test}
 use Rattle.loops.proofs.LoopLaws.{loop-split, loop-keeps, Going, going-none, going-on, going-out, going-end}
 use Rattle.numbers.specs.Order.{minOf}
 use Rattle.numbers.specs.Circle.{pi, cosOf}
+use Rattle.numbers.specs.Small.{f1, f2, f3, half}
 use Rattle.geom.specs.Vec.{f0, sum, difference, scaled, perpOf, distanceOf, normalizedOf}
 use Rattle.geom.specs.Region.{vertexOf}
 use Rattle.geom.specs.Points.{putPoint, points}
 use Rattle.geom.specs.declared.vec2.Vec2.{Vec2}
 use Rattle.geom.proofs.PointLaws.{put-length, put-there, points-length, points-same, points-more}
-use Rattle.setup.specs.Limits.{f2, half}
+use Rattle.setup.specs.Place.{biteOf}
 use Rattle.setup.specs.declared.Setup.{Setup}
-use Rattle.events.specs.Judges.{f1}
 use Rattle.passes.specs.declared.guide.Blend.{Blend}
 use Rattle.passes.specs.declared.guide.Blend.the-variants.{By, Nothing}
-use Rattle.passes.specs.Shifts.{biteOf}
 use Rattle.passes.specs.Simulate.{nowhere}
-use Rattle.passes.specs.Guide.{f3, addLeg, totalOf, alongOf, bentAt, Bend, bd, afterOf, beforeOf, bendStep, bentEnd, bentOf, farOf, chosen, lenOf, attempt, chooseOf}
+use Rattle.passes.specs.Guide.{addLeg, totalOf, alongOf, bentAt, Bend, bd, afterOf, beforeOf, bendStep, bentEnd, bentOf, farOf, chosen, lenOf, attempt, chooseOf}
 use Rattle.passes.proofs.SimulateLaws.{point-in}
 
 -- ---- the length

@@ -53,7 +53,7 @@ tried-withdrawn j rows position t m l u h = ap (λ (k : List ℕ). state (st k (
 -- ---- for the proof of `try_start`
 
 -- the guide that is left has as many points as were walked
-bent-long : (s : Setup) (allowed free : Vec2 → Bool) (pts : List Vec2) (n : ℕ) → length pts ≡ n → (b : Option (List Vec2)) → blendOf s allowed free pts ≡ b → length (bentOr pts b) ≡ n
+pub bent-long : (s : Setup) (allowed free : Vec2 → Bool) (pts : List Vec2) (n : ℕ) → length pts ≡ n → (b : Option (List Vec2)) → blendOf s allowed free pts ≡ b → length (bentOr pts b) ≡ n
 unfolding bentOr
 bent-long s allowed free pts n e none d = e
 bent-long s allowed free pts n e (some l) d = blend-length s allowed free pts l d ∙ e

@@ -9,6 +9,7 @@ use Rattle.loops.proofs.Cases.{by-cases, by-test}
 use Rattle.loops.proofs.LoopLaws.{loop-keeps}
 use Rattle.floats.proofs.OrderLaws.{le-le}
 use Rattle.numbers.specs.Order.{maxOf}
+use Rattle.numbers.specs.Small.{tiny}
 use Rattle.geom.specs.Vec.{f0}
 use Rattle.geom.specs.declared.vec2.Vec2.{Vec2}
 use Rattle.setup.specs.Place.{contactAt}
@@ -17,7 +18,7 @@ use Rattle.passes.specs.declared.shifts.Probe.{Probe}
 use Rattle.passes.specs.declared.shifts.Shift.{Shift}
 use Rattle.passes.specs.declared.shifts.Shift.the-variants.{At, Nothing}
 use Rattle.passes.specs.declared.shifts.Search.{Search}
-use Rattle.passes.specs.Shifts.{tiny, sr, movedOf, Seek, sk, grown, sought, judged, tryOf, easeOf, look, outward, orOutward, searchOf}
+use Rattle.passes.specs.Shifts.{sr, movedOf, Seek, sk, grown, sought, judged, tryOf, easeOf, look, outward, orOutward, searchOf}
 use Rattle.passes.proofs.ShiftLaws.{probe-yes, probe-no}
 
 module _ (s : Setup) (allowed : Vec2 → Bool) (m : List ℕ) where

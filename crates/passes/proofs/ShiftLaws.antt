@@ -6,22 +6,16 @@ use Prim.Native.Nat.{ℕ}
 use lib.Ieee.{Float, binary64, add, sub, mul, lt, le}
 use Rattle.loops.specs.Loop.{loop, on, out, turn}
 use Rattle.numbers.specs.Order.{maxOf}
-use Rattle.numbers.specs.Circle.{cosOf}
+use Rattle.numbers.specs.Small.{f4, tiny}
 use Rattle.geom.specs.Vec.{f0, sum, scaled}
 use Rattle.geom.specs.declared.vec2.Vec2.{Vec2}
-use Rattle.setup.specs.Limits.{f4}
-use Rattle.setup.specs.Place.{contactAt}
+use Rattle.setup.specs.Place.{contactAt, biteOf}
 use Rattle.setup.specs.declared.Setup.{Setup}
-use Rattle.events.specs.Judges.{f1}
 use Rattle.passes.specs.declared.shifts.Probe.{Probe}
 use Rattle.passes.specs.declared.shifts.Probe.the-variants.{Contact, Barred}
 use Rattle.passes.specs.declared.shifts.Shift.the-variants.{At, Nothing}
 use Rattle.passes.specs.declared.shifts.Search.{Search}
-use Rattle.passes.specs.Shifts.{tiny, biteOf, maxShift, sr, satAdd, movedOf, sk, grown, sought, probeOf, judged, tryOf, easeOf, look, outward, orOutward, searchOf}
-
-pub bite-is : (s : Setup) (c : Float) → c ≡ cosOf (s .target) → mul binary64 (s .r) (sub binary64 f1 c) ≡ biteOf s
-unfolding biteOf
-bite-is s c C = rw (← C)
+use Rattle.passes.specs.Shifts.{maxShift, sr, satAdd, movedOf, sk, grown, sought, probeOf, judged, tryOf, easeOf, look, outward, orOutward, searchOf}
 
 pub max-is : (s : Setup) (b : Float) → b ≡ biteOf s → add binary64 b (mul binary64 f4 (s .grid .cell)) ≡ maxShift s
 unfolding maxShift

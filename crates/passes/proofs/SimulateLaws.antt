@@ -9,6 +9,7 @@ use lib.Ieee.{Float, binary64, toUnsigned, add, mul, div, lt}
 use borrow.Author.Tests.{le-leb, lt-leb}
 use Rattle.loops.specs.Loop.{loop, on, out, turn}
 use Rattle.numbers.specs.Whole.{ceilOf}
+use Rattle.numbers.specs.Small.{f2, tiny}
 use Rattle.geom.specs.Vec.{f0, difference, lerpOf, perpOf, distanceOf, lengthOf, normalizedOf}
 use Rattle.geom.specs.Region.{vertexOf}
 use Rattle.geom.specs.Points.{points}
@@ -18,14 +19,13 @@ use Rattle.raster.specs.Grid.{Over, float}
 use Rattle.raster.specs.Log.{Stock, st, Ready, clearAfter}
 use Rattle.raster.specs.declared.grid.Grid.{Grid}
 use Rattle.raster.proofs.LogLaws.{Kept, kept-none, kept-cell, keep-after, ready-kept}
-use Rattle.setup.specs.Limits.{f2}
 use Rattle.setup.specs.declared.Setup.{Setup}
 use Rattle.events.specs.Lent.{Triple, tripleAt, setTriple}
 use Rattle.passes.specs.declared.shifts.Shift.the-variants.{At, Nothing}
 use Rattle.passes.specs.declared.shifts.Search.{Search}
 use Rattle.passes.specs.declared.trial.Leg.{Leg}
 use Rattle.passes.specs.declared.trial.Trial.{Trial}
-use Rattle.passes.specs.Shifts.{tiny, maxShift, searchOf}
+use Rattle.passes.specs.Shifts.{maxShift, searchOf}
 use Rattle.passes.specs.Simulate.{nowhere, lg, legOf, sampleOf, gapOf, Pass, ps, tr, spent, filled, hOf, stepOf, advanceOf, went, sampleStep, alongLeg, legStep, ended, begun, simulateOf, Usable, Fit}
 
 -- ---- a leg

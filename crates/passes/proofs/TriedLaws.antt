@@ -14,6 +14,7 @@ use Rattle.loops.specs.Loop.{loop, on, turn}
 use Rattle.loops.specs.Cells.{ones}
 use Rattle.loops.proofs.Cases.{by-test}
 use Rattle.numbers.specs.Circle.{radiansOf}
+use Rattle.numbers.specs.Small.{f1, quarter}
 use Rattle.geom.specs.Vec.{v2, f0}
 use Rattle.geom.specs.declared.vec2.Vec2.{Vec2}
 use Rattle.raster.specs.Log.{Stock, st, Ready, clearAfter, passes}
@@ -24,7 +25,7 @@ use Rattle.setup.specs.Place.{contactAt}
 use Rattle.setup.specs.declared.Setup.{Setup}
 use Rattle.setup.proofs.LimitLaws.{target-at-most}
 use Rattle.events.specs.Chunk.{Point, Chunk, Job}
-use Rattle.events.specs.Judges.{f1, quarter, contactOn}
+use Rattle.events.specs.Judges.{contactOn}
 use Rattle.events.specs.Lent.{tripleAt, allTriples, Holds, HoldsTrial, setTriple}
 use Rattle.events.specs.Read.{pointAt, pointsFrom}
 use Rattle.events.specs.Replay.{removed, BeginsGood}

@@ -1,6 +1,6 @@
 -- What the proofs of `worth` cite, and document 01's two examples. Assumes nothing.
 use mathlib.Core.Path.{_≡_, refl, sym, ap, _∙_}
-use mathlib.Core.Bool.{false, not}
+use mathlib.Core.Bool.{true, false, not}
 use mathlib.Core.List.{List, [], _∷_, _++_, map}
 use Prim.Native.Nat.{ℕ, zero, suc, _+_, _-_, _≤_, _<_, max}
 use native.Mathlib.Omega.{arith}
@@ -8,14 +8,14 @@ use lib.ListN.{length, getD, length-append, List·getD-append}
 use lib.Seq.{getD-at}
 use lib.Dec.{ltb, leb}
 use lib.Ieee.{Float, binary64, ofBits, toUnsigned, add, mul, div}
-use borrow.Author.Tests.{ltb-true, ltb-false, lt-ltb, le-ltb, le-leb, lt-leb}
+use borrow.Author.Tests.{ltb-true, ltb-false, lt-ltb, le-ltb, le-leb, lt-leb, not-true}
 use Rattle.loops.proofs.EachLaws.{map-more}
 use Rattle.loops.specs.Loop.{loop}
-use Rattle.loops.proofs.Cases.{by-cases}
+use Rattle.loops.proofs.Cases.{by-cases, neither}
+use Rattle.numbers.specs.Small.{f1}
 use Rattle.geom.specs.Vec.{f0, distanceOf}
 use Rattle.geom.specs.declared.vec2.Vec2.{Vec2}
 use Rattle.events.specs.Chunk.{Point}
-use Rattle.events.specs.Judges.{f1}
 use Rattle.events.specs.Read.{spotAt, pointAt, pointsFrom}
 use Rattle.passes.specs.Simulate.{nowhere}
 use Rattle.passes.specs.Guide.{addLeg, totalOf}
@@ -83,6 +83,13 @@ module _ (cell : Float) (ts : List Float) (first n removed : ℕ) (long : Float)
           by-cases (ltb k 2)
           (λ b. let l = ltb-true k 2 b in rw (b, lt-leb 2 k l))
           (λ b. let l = ltb-false k 2 b in rw (b, le-leb 2 k l))
+
+-- a pass that is worth it has two points at least
+pub worth-points : (cell : Float) (ts : List Float) (first n removed : ℕ) → worthOf cell (spotsFrom ts first n) removed ≡ true → 2 ≤ n
+unfolding worthOf
+worth-points cell ts first n removed e =
+    let d = neither (ltb removed (wantedOf (totalOf (spotsFrom ts first n)) cell)) (ltb (length (spotsFrom ts first n)) 2) (not-true _ e) in
+    omega (arith, spots-length ts first n, ltb-false (length (spotsFrom ts first n)) 2 (d .1))
 
 -- ---- document 01: with cell 1, length 100 wants 5 and length 60 wants 4
 

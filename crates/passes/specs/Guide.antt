@@ -5,24 +5,20 @@ use mathlib.Core.List.{List, [], _∷_, _++_}
 use mathlib.Core.Option.{Option, none, some}
 use lib.ListN.{length, getD, drop}
 use lib.Dec.{eqb, ltb}
-use lib.Ieee.{Float, binary64, ofBits, add, mul, div, le}
+use lib.Ieee.{Float, binary64, add, mul, div, le}
 use Rattle.loops.specs.Loop.{loop, Run, on, out, turn}
 use Rattle.loops.specs.Regions.{within, put}
 use Rattle.numbers.specs.Order.{minOf}
 use Rattle.numbers.specs.Circle.{pi, cosOf}
+use Rattle.numbers.specs.Small.{f1, f2, f3, half}
 use Rattle.geom.specs.Vec.{f0, sum, difference, scaled, perpOf, distanceOf, normalizedOf}
 use Rattle.geom.specs.Points.{points}
 use Rattle.geom.specs.declared.vec2.Vec2.{Vec2}
-use Rattle.setup.specs.Limits.{f2, half}
+use Rattle.setup.specs.Place.{biteOf}
 use Rattle.setup.specs.declared.Setup.{Setup}
-use Rattle.events.specs.Judges.{f1}
-use Rattle.passes.specs.Shifts.{biteOf}
 use Rattle.passes.specs.Simulate.{nowhere}
 use Rattle.passes.specs.declared.guide.Blend.{Blend}
 use Rattle.passes.specs.declared.guide.Blend.the-variants.{By, Nothing}
-
-abbrev pub f3 : Float
-f3 = ofBits binary64 0x4008_0000_0000_0000
 
 -- ---- the length, summed in order
 

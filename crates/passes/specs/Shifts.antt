@@ -2,29 +2,19 @@
 use Prim.Native.Nat.{ℕ, _+_, min}
 use mathlib.Core.Bool.{Bool, cond}
 use mathlib.Core.List.{List}
-use lib.Ieee.{Float, binary64, ofBits, add, sub, mul, lt, le}
+use lib.Ieee.{Float, binary64, add, sub, mul, lt, le}
 use Rattle.loops.specs.Loop.{loop, Run, on, out, turn}
 use Rattle.numbers.specs.Order.{maxOf}
-use Rattle.numbers.specs.Circle.{cosOf}
+use Rattle.numbers.specs.Small.{f4, tiny}
 use Rattle.geom.specs.Vec.{f0, sum, scaled}
 use Rattle.geom.specs.declared.vec2.Vec2.{Vec2}
-use Rattle.setup.specs.Limits.{f4}
-use Rattle.setup.specs.Place.{contactAt}
+use Rattle.setup.specs.Place.{contactAt, biteOf}
 use Rattle.setup.specs.declared.Setup.{Setup}
-use Rattle.events.specs.Judges.{f1}
 use Rattle.passes.specs.declared.shifts.Probe.{Probe}
 use Rattle.passes.specs.declared.shifts.Probe.the-variants.{Contact, Barred}
 use Rattle.passes.specs.declared.shifts.Shift.{Shift}
 use Rattle.passes.specs.declared.shifts.Shift.the-variants.{At, Nothing}
 use Rattle.passes.specs.declared.shifts.Search.{Search}
-
--- 1e-12
-abbrev pub tiny : Float
-tiny = ofBits binary64 0x3d71_9799_812d_ea11
-
--- r * (1.0 - target.cos())
-unfoldable pub biteOf : Setup → Float
-biteOf s = mul binary64 (s .r) (sub binary64 f1 (cosOf (s .target)))
 
 -- .. + 4.0 * cell
 unfoldable pub maxShift : Setup → Float

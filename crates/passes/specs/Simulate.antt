@@ -7,15 +7,14 @@ use lib.Dec.{leb}
 use lib.Ieee.{Float, nan, binary64, toUnsigned, add, mul, div, lt}
 use Rattle.loops.specs.Loop.{loop, Run, on, out, turn}
 use Rattle.numbers.specs.Whole.{ceilOf}
+use Rattle.numbers.specs.Small.{f2, half, quarter, tiny}
 use Rattle.geom.specs.Vec.{v2, f0, difference, lerpOf, perpOf, distanceOf, lengthOf, normalizedOf}
 use Rattle.geom.specs.declared.vec2.Vec2.{Vec2}
 use Rattle.raster.specs.Grid.{Over, float}
 use Rattle.raster.specs.Log.{st, Ready, clearAfter}
-use Rattle.setup.specs.Limits.{f2, half}
 use Rattle.setup.specs.declared.Setup.{Setup}
-use Rattle.events.specs.Judges.{quarter}
 use Rattle.events.specs.Lent.{tripleAt, setTriple}
-use Rattle.passes.specs.Shifts.{tiny, maxShift, searchOf}
+use Rattle.passes.specs.Shifts.{maxShift, searchOf}
 use Rattle.passes.specs.declared.shifts.Shift.{Shift}
 use Rattle.passes.specs.declared.shifts.Shift.the-variants.{At, Nothing}
 use Rattle.passes.specs.declared.trial.Leg.{Leg}

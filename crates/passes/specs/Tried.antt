@@ -4,10 +4,11 @@ use mathlib.Core.Bool.{Bool, true}
 use mathlib.Core.List.{List}
 use Prim.Native.Nat.{ℕ}
 use lib.Ieee.{Float, binary64, add, mul, le}
+use Rattle.numbers.specs.Small.{quarter}
 use Rattle.geom.specs.declared.vec2.Vec2.{Vec2}
 use Rattle.setup.specs.declared.Setup.{Setup}
 use Rattle.events.specs.Chunk.{Job}
-use Rattle.events.specs.Judges.{quarter, jobOf}
+use Rattle.events.specs.Judges.{jobOf}
 
 abbrev pub jobFor : Setup → (Vec2 → Bool) → List ℕ → Float → Job
 jobFor s allowed start limit = jobOf (s .grid) (s .r) (s .samples) allowed start (s .guard) limit

@@ -11,10 +11,10 @@ ghost use Rattle.setup.specs.Place.{Walls, allowedAt, freeAt};
 ghost use Rattle.passes.specs.Simulate.{nowhere};
 ghost use Rattle.passes.specs.Guide.{totalOf, alongOf, bentAt, afterOf, bentOf, farOf, chooseOf, blendOf};
 ghost use Rattle.passes.specs.Guide.{roundTo, walkOf, flat, pointsIn, laid, bentOr, isSome, Ahead};
-use super::shifts::bite_of;
 use geom::region::vertex;
 use geom::vec2::Vec2;
 use setup::Setup;
+use setup::place::bite_of;
 
 const PI: f64 = 3.14159265358979323846264338327950288;
 

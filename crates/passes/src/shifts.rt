@@ -4,9 +4,10 @@ ghost use lib.ListN.{length};
 ghost use Rattle.raster.specs.Grid.{Over};
 ghost use Rattle.raster.specs.Contact.{samplesOf, Rim};
 ghost use Rattle.setup.specs.Place.{Walls, allowedAt};
-ghost use Rattle.passes.specs.Shifts.{biteOf, maxShift, satAdd, movedOf, probeOf, tryOf, easeOf, searchOf};
+ghost use Rattle.passes.specs.Shifts.{maxShift, satAdd, movedOf, probeOf, tryOf, easeOf, searchOf};
 use geom::vec2::Vec2;
 use setup::Setup;
+use setup::place::bite_of;
 
 // Contact at a place, where the tool may be there.
 pub enum Probe {
@@ -24,13 +25,6 @@ pub enum Shift {
 pub struct Search {
     pub found: Shift,
     pub work: usize,
-}
-
-// How deep a straight cut at the target bites.
-pub fn bite_of(s: Setup) -> f64
-    ensures { λ b. ⌜ b ≡ biteOf s ⌝ }
-{
-    s.r * (1.0 - numbers::circle::cos(s.target))
 }
 
 pub fn max_shift(s: Setup) -> f64

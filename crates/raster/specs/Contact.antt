@@ -6,9 +6,10 @@ use mathlib.Core.List.{List}
 use lib.ListN.{length, getD, set}
 use lib.Ieee.{Float, nan, binary64, ofBits, add, mul, div}
 use Rattle.loops.specs.Loop.{loop}
+use Rattle.numbers.specs.Small.{half}
 use Rattle.geom.specs.Vec.{sum, scaled, fromAngle}
 use Rattle.geom.specs.declared.vec2.Vec2.{Vec2}
-use Rattle.raster.specs.Grid.{half, float, stockAt}
+use Rattle.raster.specs.Grid.{float, stockAt}
 use Rattle.raster.specs.declared.grid.Grid.{Grid}
 
 abbrev pub tau : Float

@@ -6,9 +6,10 @@ use lib.Ieee.{Float, binary64, toUnsigned, add, sub, mul, div, lt, le}
 use Rattle.numbers.specs.Order.{maxOf}
 use Rattle.numbers.specs.Whole.{floorOf, ceilOf}
 use Rattle.numbers.specs.Root.{rootOf}
+use Rattle.numbers.specs.Small.{half}
 use Rattle.geom.specs.Vec.{f0}
 use Rattle.geom.specs.declared.vec2.Vec2.{Vec2}
-use Rattle.raster.specs.Grid.{half, float, offset}
+use Rattle.raster.specs.Grid.{float, offset}
 use Rattle.raster.specs.declared.grid.Grid.{Grid}
 use Rattle.raster.specs.declared.disk.Rows.{Rows}
 use Rattle.raster.specs.declared.disk.Crescent.{Crescent}

@@ -5,9 +5,10 @@ use mathlib.Core.List.{List}
 use lib.ListN.{getD}
 use lib.IntN.{pos}
 use lib.Dec.{eqb, ltb, leb}
-use lib.Ieee.{Float, binary64, ofBits, ofInt, toUnsigned, add, sub, mul, div, lt}
+use lib.Ieee.{Float, binary64, ofInt, toUnsigned, add, sub, mul, div, lt}
 use Rattle.numbers.specs.Order.{isFinite}
 use Rattle.numbers.specs.Whole.{ceilOf}
+use Rattle.numbers.specs.Small.{f2, half}
 use Rattle.geom.specs.Vec.{v2, f0, sum, difference}
 use Rattle.geom.specs.declared.vec2.Vec2.{Vec2}
 use Rattle.raster.specs.declared.grid.Grid.{Grid}
@@ -30,16 +31,9 @@ pub record Over (g : Grid) (n : ℕ) : Type 0 where
   pub sides : Sides g
   pub long : g .ny * g .nx ≤ n
 
-abbrev pub half : Float
-half = ofBits binary64 0x3fe0_0000_0000_0000
-
 -- a whole number as a float
 abbrev pub float : ℕ → Float
 float n = ofInt binary64 (pos n)
-
--- 2.0
-abbrev pub f2 : Float
-f2 = ofBits binary64 0x4000_0000_0000_0000
 
 -- the whole cells from lo to hi with the margin on both sides; a side has one more
 unfoldable pub reachOf : Float → Float → Float → Float → ℕ

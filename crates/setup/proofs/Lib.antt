@@ -1,3 +1,4 @@
 pub mod LayoutLaws
 pub mod LimitLaws
 pub mod PlaceLaws
+pub mod PartLaws

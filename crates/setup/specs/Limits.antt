@@ -4,15 +4,7 @@ use lib.Ieee.{Float, binary64, ofBits, sub, mul, div, toUnsigned}
 use Rattle.numbers.specs.Order.{minOf, maxOf}
 use Rattle.numbers.specs.Whole.{ceilOf}
 use Rattle.numbers.specs.Circle.{pi}
-
-abbrev pub f2 : Float
-f2 = ofBits binary64 0x4000_0000_0000_0000
-
-abbrev pub f4 : Float
-f4 = ofBits binary64 0x4010_0000_0000_0000
-
-abbrev pub half : Float
-half = ofBits binary64 0x3fe0_0000_0000_0000
+use Rattle.numbers.specs.Small.{f2, f4, half}
 
 -- 0.95 and 0.85
 abbrev pub c95 : Float

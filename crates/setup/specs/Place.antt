@@ -5,8 +5,10 @@ use mathlib.Core.Bool.{Bool, false, not, _&&_}
 use mathlib.Core.List.{List}
 use lib.ListN.{length, getD}
 use lib.Dec.{eqb}
-use lib.Ieee.{Float, nan, binary64, add, mul, le}
+use lib.Ieee.{Float, nan, binary64, add, sub, mul, le}
 use Rattle.numbers.specs.Bound.{Bounds}
+use Rattle.numbers.specs.Circle.{cosOf}
+use Rattle.numbers.specs.Small.{f1, f2}
 use Rattle.geom.specs.Region.{Held, containsOf}
 use Rattle.geom.specs.Segment.{anyWithin}
 use Rattle.geom.specs.declared.vec2.Vec2.{Vec2}
@@ -16,7 +18,6 @@ use Rattle.raster.specs.Contact.{engagementOf}
 use Rattle.raster.specs.declared.grid.Grid.{Grid}
 use Rattle.raster.specs.declared.grid.Found.{Found}
 use Rattle.raster.specs.declared.grid.Found.the-variants.{Nothing, At}
-use Rattle.setup.specs.Limits.{f2}
 use Rattle.setup.specs.declared.Setup.{Setup}
 
 -- wall_dist[k] + 2.0 * cell >= keep at the point's cell; off the raster no
@@ -38,6 +39,10 @@ freeAt s m p = eqb (countDisk (s .grid) p (s .r) m) 0
 -- contact of a tool of radius r
 unfoldable pub contactAt : Setup → List ℕ → Vec2 → Float → Float
 contactAt s m p r = engagementOf (s .grid) m p r (s .samples)
+
+-- how deep a straight cut at the target bites: r * (1.0 - target.cos())
+unfoldable pub biteOf : Setup → Float
+biteOf s = mul binary64 (s .r) (sub binary64 f1 (cosOf (s .target)))
 
 -- the wall distances and the region are lent, and the bound is that of `keep`
 pub record Walls (s : Setup) (wall vs : List Float) (lens : List ℕ) : Type 0 where

@@ -3,7 +3,7 @@ ghost use mathlib.Core.Path.{_≡_};
 ghost use lib.ListN.{length};
 ghost use Rattle.raster.specs.Grid.{Over};
 ghost use Rattle.raster.specs.Contact.{samplesOf, Rim};
-ghost use Rattle.setup.specs.Place.{Walls, wallAt, allowedAt, freeAt, contactAt};
+ghost use Rattle.setup.specs.Place.{Walls, wallAt, allowedAt, freeAt, contactAt, biteOf};
 use super::Setup;
 use geom::vec2::Vec2;
 use raster::grid::Found;
@@ -56,4 +56,11 @@ pub fn contact(s: Setup, map: &[u8], rim: &[f64], p: Vec2, r: f64) -> f64
 {
     let g = s.grid;
     raster::contact::engagement(g, map, p, r, rim, s.samples)
+}
+
+// How deep a straight cut at the target bites.
+pub fn bite_of(s: Setup) -> f64
+    ensures { λ b. ⌜ b ≡ biteOf s ⌝ }
+{
+    s.r * (1.0 - numbers::circle::cos(s.target))
 }

@@ -1,16 +1,16 @@
 -- `field::gauge::low_of` meets its contract. Assumes nothing.
 use mathlib.Core.Path.{refl}
-use Rattle.field.specs.Field.{biteOf, lowOf}
+use Rattle.field.specs.Field.{lowOf}
 use borrow.Author.Needs.{needs}
 use Rattle.field.proofs.gauge.low_of.Statement.{statement}
 use Rattle.field.proofs.gauge.low_of.Tie as tie
 
-cos-requires : tie.Need-cos-requires
-cos-requires c κs = search needs
+bite-of-requires : tie.Need-bite-of-requires
+bite-of-requires c κs = search needs
 
 returns : tie.Need-returns
-unfolding lowOf biteOf
-returns c = rw (← c .before .before .cos .ensures) refl
+unfolding lowOf
+returns c = rw (← c .before .bite-of .ensures) refl
 
 pub low-of-spec : {M : Type 1} → statement M
-low-of-spec = tie.close (tie.spec cos-requires returns)
+low-of-spec = tie.close (tie.spec bite-of-requires returns)

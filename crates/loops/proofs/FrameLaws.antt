@@ -6,9 +6,9 @@ use native.Mathlib.Omega.{arith}
 use lib.ListN.{length, take, drop}
 use lib.Seq.{take-at, take-take, drop-drop, length-take-le}
 use borrow.Rule.Slice.PartMut.{putMid, take-put, drop-put, put-same}
 use Rattle.loops.specs.Regions.{Fits, within, put}
-use Rattle.loops.proofs.RegionLaws.{region-long, put-is, put-long, put-back, put-before, put-after}
-use Rattle.links.specs.Frame.{Only}
+use Rattle.loops.specs.Frame.{Only}
+use Rattle.loops.proofs.RegionLaws.{region-long, put-is, put-long, put-back, put-length, put-before, put-after, put-again}
 
 module _ {A : Type 0} (a e : ℕ) (w : List A) (h : Fits a e w) where
   module _ (r : List A) (l : length r ≡ length (take (e - a) (drop a w))) where
@@ -21,17 +21,12 @@ module _ {A : Type 0} (a e : ℕ) (w : List A) (h : Fits a e w) where
     pub back-only : Only a e w (putMid a (e - a) w r)
     back-only = record { long = put-long a e w h r l; rest = put-is a e w h r r refl ∙ ap (λ (x : List A). put a e x w) (sym back-there) }
 
+  pub put-only : (r : List A) → length r ≡ e - a → Only a e w (put a e r w)
+  put-only r l = record { long = put-length a e w r h l; rest = ap (λ (x : List A). put a e x w) (sym (put-back a e w r h l)) }
+
   pub only-same : Only a e w w
   unfolding within
   only-same = record { long = refl; rest = sym (put-same a (e - a) w) ∙ put-is a e w h _ _ refl }
-
-  -- one change on another
-  put-put : (r s : List A) → length s ≡ e - a → put a e r (put a e s w) ≡ put a e r w
-  unfolding put
-  put-put r s l =
-      let m : put a e s w ≡ putMid a (e - a) w s = sym (put-is a e w h s s refl) in
-      ap (λ (x : List A). x ++ (r ++ drop e (put a e s w))) (ap (take a) m ∙ take-put a (e - a) w s (omega (arith, h .start, h .end)))
-      ∙ ap (λ (x : List A). take a w ++ (r ++ x)) (ap (drop e) m ∙ drop-put a e w s (h .start) (h .end) l)
 
   module _ (u : List A) (o : Only a e w u) where
     pub only-fits : Fits a e u
@@ -44,7 +39,7 @@ module _ {A : Type 0} (a e : ℕ) (w : List A) (h : Fits a e w) where
     pub only-more : (v : List A) → Only a e u v → Only a e w v
     only-more v p = record {
       long = p .long ∙ o .long;
-      rest = p .rest ∙ ap (put a e (within a e v)) (o .rest) ∙ put-put (within a e v) (within a e u) region;
+      rest = p .rest ∙ ap (put a e (within a e v)) (o .rest) ∙ put-again a e w (within a e v) (within a e u) h region;
     }
 
     pub only-before : (b f : ℕ) → b ≤ f → f ≤ a → within b f u ≡ within b f w
@@ -66,14 +61,17 @@ module _ {A : Type 0} (a e : ℕ) (w u : List A) (h : Fits a e w) (o : Only a e 
       ap (drop e) (o .rest ∙ sym (put-is a e w h (within a e u) (within a e u) refl))
       ∙ drop-put a e w (within a e u) (h .start) (h .end) (region-long a e u (only-fits a e w h u o))
 
+  pub only-rest : (f : ℕ) → e ≤ f → drop f u ≡ drop f w
+  only-rest f q =
+      let n : e + (f - e) ≡ f = omega arith in
+      ap (λ (i : ℕ). drop i u) (sym n) ∙ sym (drop-drop (f - e) e u) ∙ ap (drop (f - e)) only-last ∙ drop-drop (f - e) e w ∙ ap (λ (i : ℕ). drop i w) n
+
   pub only-wider : (b f : ℕ) → b ≤ a → e ≤ f → f ≤ length w → Only b f w u
   unfolding put
   only-wider b f p q r =
       let k : Fits b f u = record { start = omega (arith, h .start); end = omega (arith, o .long) } in
       let t : take b u ≡ take b w = sym (take-take b a u p) ∙ ap (take b) only-first ∙ take-take b a w p in
-      let n : e + (f - e) ≡ f = omega arith in
-      let d : drop f u ≡ drop f w =
-      ap (λ (i : ℕ). drop i u) (sym n) ∙ sym (drop-drop (f - e) e u) ∙ ap (drop (f - e)) only-last ∙ drop-drop (f - e) e w ∙ ap (λ (i : ℕ). drop i w) n in
+      let d : drop f u ≡ drop f w = only-rest f q in
       record {
         long = o .long;
         rest = only-same b f u k .rest ∙ ap (λ (x : List A). x ++ (within b f u ++ drop f u)) t ∙ ap (λ (x : List A). take b w ++ (within b f u ++ x)) d;

@@ -1,8 +1,8 @@
--- `passes::shifts::bite_of` meets its contract. Assumes nothing.
-use Rattle.passes.proofs.ShiftLaws.{bite-is}
+-- `setup::place::bite_of` meets its contract. Assumes nothing.
+use Rattle.setup.proofs.PlaceLaws.{bite-is}
 use borrow.Author.Needs.{needs}
-use Rattle.passes.proofs.shifts.bite_of.Statement.{statement}
-use Rattle.passes.proofs.shifts.bite_of.Tie as tie
+use Rattle.setup.proofs.place.bite_of.Statement.{statement}
+use Rattle.setup.proofs.place.bite_of.Tie as tie
 
 cos-requires : tie.Need-cos-requires
 cos-requires c κs = search needs
