@@ -1,3 +1,4 @@
 pub mod SetupLaws
 pub mod PathLaws
 pub mod PassLaws
+pub mod CutLaws

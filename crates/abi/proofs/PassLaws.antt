@@ -1,5 +1,6 @@
 -- What `simulate` requires holds of a Setup made of its numbers, and what it answers is put down in parts. Assumes nothing.
 use mathlib.Core.Path.{_≡_, refl, sym, subst}
+use mathlib.Core.Bool.{true}
 use mathlib.Core.List.{List, [], _∷_}
 use Prim.Native.Nat.{ℕ, _/_, _≤_}
 use native.Mathlib.Omega.{arith}
@@ -29,9 +30,9 @@ told a b c (x ∷ []) h = absurd (let z : ⊥ = omega arith in z)
 told a b c (x ∷ y ∷ []) h = absurd (let z : ⊥ = omega arith in z)
 told a b c (x ∷ y ∷ z ∷ l) h = record { first = refl; second = refl; third = refl }
 
-module _ (s : Setup) (g : Grid) (region : Region) (r wide keep target guard : Float) (samples : ℕ) (e : s ≡ passing g region r wide keep target guard samples (s .bound)) (b : Bounds keep (s .bound)) where
+module _ (s : Setup) (g : Grid) (region : Region) (r wide keep target guard : Float) (samples : ℕ) (e : s ≡ passing g region r wide keep target guard samples true (s .bound)) (b : Bounds keep (s .bound)) where
   abbrev plain : Setup
-  plain = passing g region r wide keep target guard samples Untold
+  plain = passing g region r wide keep target guard samples true Untold
 
   pub pass-walls : (wall vs : List Float) (lens : List ℕ) → Walls plain wall vs lens → Walls s wall vs lens
   pass-walls wall vs lens f = subst (λ (z : Setup). Walls z wall vs lens) (sym e) record { over = f .over; held = f .held; bound = b }

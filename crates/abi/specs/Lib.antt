@@ -4,3 +4,4 @@ pub mod Geom
 pub mod Raster
 pub mod Setup
 pub mod Passes
+pub mod Cutting

@@ -15,9 +15,9 @@ use Rattle.setup.specs.declared.Setup.{Setup}
 use Rattle.passes.specs.Simulate.{ps, simulateOf}
 use Rattle.passes.specs.declared.trial.Trial.{Trial}
 
--- a Setup of what a pass reads
-abbrev pub passing : Grid → Region → Float → Float → Float → Float → Float → ℕ → Bound → Setup
-passing g region r wide keep target guard samples bound = record {
+-- a Setup of what a pass and the way to it read
+abbrev pub passing : Grid → Region → Float → Float → Float → Float → Float → ℕ → Bool → Bound → Setup
+passing g region r wide keep target guard samples down bound = record {
   grid = g;
   region = region;
   r = r;
@@ -27,7 +27,7 @@ passing g region r wide keep target guard samples bound = record {
   target = target;
   guard = guard;
   samples = samples;
-  «keep_down» = true;
+  «keep_down» = down;
 }
 
 -- The pass is that of a Setup with some bound of `keep`; points, cells removed and work are put down in that order.
@@ -39,4 +39,4 @@ pub record PassBy (g : Grid) (region : Region) (r wide keep target guard : Float
   pub points-is : getD told 0 0 ≡ trial .points
   pub removed-is : getD told 1 0 ≡ trial .removed
   pub work-is : getD told 2 0 ≡ trial .work
-  pub is : ps m′ l′ o′ trial ≡ simulateOf (passing g region r wide keep target guard samples bound) (allowedAt (passing g region r wide keep target guard samples bound) wall vs lens) (points 0 (length guide / 2) guide) kept m l o
+  pub is : ps m′ l′ o′ trial ≡ simulateOf (passing g region r wide keep target guard samples true bound) (allowedAt (passing g region r wide keep target guard samples true bound) wall vs lens) (points 0 (length guide / 2) guide) kept m l o

@@ -1,5 +1,6 @@
 // The functions of `passes`.
 ghost use mathlib.Core.Path.{_≡_};
+ghost use mathlib.Core.Bool.{true};
 ghost use Prim.Native.Nat.{_≤_};
 ghost use lib.ListN.{length};
 ghost use Rattle.numbers.specs.Bound.{Bounds};
@@ -15,7 +16,7 @@ use geom::vec2::Vec2;
 use raster::grid::Grid;
 use setup::Setup;
 
-fn passing(
+pub fn passing(
     grid: Grid,
     region: Region,
     r: f64,
@@ -24,8 +25,9 @@ fn passing(
     target: f64,
     guard: f64,
     samples: usize,
+    keep_down: bool,
 ) -> Setup
-    ensures { λ s. ⌜ (s ≡ passing grid region r wide keep target guard samples (s .bound)) × Bounds keep (s .bound) ⌝ }
+    ensures { λ s. ⌜ (s ≡ passing grid region r wide keep target guard samples «keep_down» (s .bound)) × Bounds keep (s .bound) ⌝ }
 {
     let bound = numbers::bound::bound_of(keep);
     Setup {
@@ -38,7 +40,7 @@ fn passing(
         target,
         guard,
         samples,
-        keep_down: true,
+        keep_down,
     }
 }
 
@@ -70,9 +72,9 @@ pub extern "C" fn passes_simulate(
     kept: usize,
     out: &mut [u64],
 ) -> bool
-    requires { ⌜ Walls (passing (grid ox oy cell nx ny) (region at first loops) r wide keep target guard samples Untold) (now wall) (now vs) (now lens) ⌝ }
+    requires { ⌜ Walls (passing (grid ox oy cell nx ny) (region at first loops) r wide keep target guard samples true Untold) (now wall) (now vs) (now lens) ⌝ }
     requires { ⌜ Rim (samplesOf samples) (now rim) ⌝ }
-    requires { ⌜ Usable (passing (grid ox oy cell nx ny) (region at first loops) r wide keep target guard samples Untold) (now map) (now log) (now guide) ⌝ }
+    requires { ⌜ Usable (passing (grid ox oy cell nx ny) (region at first loops) r wide keep target guard samples true Untold) (now map) (now log) (now guide) ⌝ }
     requires { ⌜ 3 ≤ length (now out) ⌝ }
     ensures { λ t. ⌜ PassBy (grid ox oy cell nx ny) (region at first loops) r wide keep target guard samples (now (wall .entry)) (now (vs .entry)) (now (lens .entry)) (now (guide .entry)) kept (now (map .entry)) (now (log .entry)) (now (triples .entry)) (now (map .exit)) (now (log .exit)) (now (triples .exit)) t (now (out .exit)) ⌝ }
 {
@@ -92,6 +94,7 @@ pub extern "C" fn passes_simulate(
         target,
         guard,
         samples,
+        true,
     );
     let t = passes::trial::simulate(s, wall, vs, lens, rim, guide, map, log, triples, kept);
     out[0] = t.points as u64;

@@ -1,11 +1,12 @@
 //! The proved library beside the published Rust.
 //!
 //! `numbers` lists the functions to compare, `ffi` declares them, `inputs` has the numbers they are
-//! compared on; `distance`, `geom`, `raster`, `setup`, `field`, `contours`, `links` and `passes` have the
-//! functions that are lent slices, and `planners` the planners whose fields are lent. The tests compare
-//! bits; the programs `bench`, `bench_distance`, `bench_contours` and `bench_links` time.
+//! compared on; `distance`, `geom`, `raster`, `setup`, `field`, `contours`, `links`, `passes` and `cutting`
+//! have the functions that are lent slices, and `planners` the planners whose fields are lent. The tests
+//! compare bits; the programs `bench`, `bench_distance`, `bench_contours` and `bench_links` time.
 pub mod bits;
 pub mod contours;
+pub mod cutting;
 pub mod distance;
 pub mod ffi;
 pub mod field;

@@ -317,6 +317,7 @@ pub const EDITS: &[Edit] = &[
         "\n    allowed: Vec<bool>,",
         "\n    reach: Grid,",
         "\n    wall_dist: Vec<f64>,",
+        "\n    keep_down: bool,",
         "\n    chunks: Vec<Chunk>,",
         "\n    planned_max: f64,",
         "\n    work: usize,",

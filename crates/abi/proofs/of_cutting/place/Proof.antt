@@ -1,0 +1,13 @@
+-- `abi::of_cutting::place` meets its contract. Assumes nothing.
+use borrow.Author.Needs.{needs}
+use Rattle.abi.proofs.of_cutting.place.Statement.{statement}
+use Rattle.abi.proofs.of_cutting.place.Tie as tie
+
+returns : tie.Need-returns
+returns c = rw (c .if1 .taken)
+
+returns-2 : tie.Need-returns-2
+returns-2 c = search needs
+
+pub place-spec : {M : Type 1} → statement M
+place-spec = tie.close (tie.spec returns returns-2)
