@@ -4,7 +4,7 @@ ghost use mathlib.Core.Path.{_≡_};
 ghost use Prim.Native.Nat.{_*_, _≤_};
 ghost use lib.ListN.{length};
 ghost use Rattle.numbers.specs.declared.bound.Bound.the-variants.{Untold};
-ghost use Rattle.setup.specs.Layout.{run};
+ghost use Rattle.setup.specs.Layout.{run, mapIn};
 ghost use Rattle.links.specs.Path.{Fitted};
 ghost use Rattle.cutting.specs.Tries.{Among};
 ghost use Rattle.cutting.specs.Piece.{sta, Lends, Listed};
@@ -124,7 +124,7 @@ pub extern "C" fn cutting_cut_piece(
     counts: &mut [u64],
     floats: &mut [f64],
 ) -> u32
-    requires { ⌜ Fitted (passing (grid ox oy cell nx ny) (region at first loops) r wide keep target guard samples «keep_down» Untold) (now vs) (now lens) (run 0 (ny * nx) (now b)) (now w) ⌝ }
+    requires { ⌜ Fitted (passing (grid ox oy cell nx ny) (region at first loops) r wide keep target guard samples «keep_down» Untold) (now vs) (now lens) (mapIn (ny * nx) (now b)) (now w) ⌝ }
     requires { ⌜ Lends (ny * nx) (now b) (now u) ⌝ }
     requires { ⌜ Among (ny * nx) from m ⌝ }
     requires { ⌜ Listed (now rows) (now triples) (sta (placeOf down x y) «listed_rows» «listed_triples» «planned_max» work) 0 ⌝ }

@@ -24,7 +24,7 @@ use Rattle.passes.specs.Tried.{Measured}
 use Rattle.cutting.specs.Tries.{Tries, triesOf}
 use Rattle.cutting.specs.Way.{routeOf, wayChunks}
 use Rattle.cutting.specs.Listing.{needs, refusalOf}
-use Rattle.cutting.specs.Piece.{spending, Left, Told, lf, listedOf, keptOf, wentOf, worthyOf, afterTries, cutPieceOf}
+use Rattle.cutting.specs.Piece.{spending, Left, WithEvents, lf, listedOf, keptOf, wentOf, worthyOf, afterTries, cutPieceOf}
 use Rattle.cutting.specs.declared.piece.State.{State as Plan}
 use Rattle.cutting.specs.declared.piece.Cut.{Cut}
 use Rattle.cutting.specs.declared.piece.Cut.the-variants.{Nothing, Kept, Refused}
@@ -105,7 +105,7 @@ module _ (s : Setup) (w : Way) (removed n : ℕ) (t : Plan) (m d log rows : List
     unfolding keptOf
     kept-holds =
         let no : ℕ = refusalOf (length o / 3 - t .triples) (length rows / 3 - t .rows) (needs new) in
-        by-test (λ (q : Told). CutHolds rows o cs new (q .left)) (eqb no 0) _ _
+        by-test (λ (q : WithEvents). CutHolds rows o cs new (q .left)) (eqb no 0) _ _
         (λ b. let f = listed-fit (eqb-true no 0 b) in listed-there (f .0) (f .1))
         (λ b. refused-holds (Refused no) refl tt)
 
@@ -124,7 +124,7 @@ module _ (s : Setup) (wall vs : List Float) (lens allowed : List ℕ) (pts : Lis
       let c : Outcome = q .outcome in
       let to : Vec2 = spotAt (c .out) (t .triples) in
       let r : Linked = routeOf s wall vs lens m allowed (t .pos) to in
-      let P : Told → Type 0 = λ x. CutHolds rows (c .out) cs (newBy c) (x .left) in
+      let P : WithEvents → Type 0 = λ x. CutHolds rows (c .out) cs (newBy c) (x .left) in
       let still : (x : Cut) → listedBy x (newBy c) ≡ [] → Counts x cs → CutHolds rows (c .out) cs (newBy c) (lf m d (c .log) rows (c .out) x) =
       refused-holds s (r .path) (c .attempt .removed) (c .attempt .points) t m d (c .log) rows (c .out) cs A B h in
       by-test P (c .attempt .full) _ _

@@ -27,7 +27,7 @@ use Rattle.passes.specs.Tried.{Measured}
 use Rattle.cutting.specs.Tries.{Tries, triesOf}
 use Rattle.cutting.specs.Way.{routeOf, wayChunks}
 use Rattle.cutting.specs.Listing.{needs, refusalOf}
-use Rattle.cutting.specs.Piece.{spending, Told, told, lf, wayEvents, listedOf, keptOf, wentOf, worthyOf, afterTries, cutPieceOf}
+use Rattle.cutting.specs.Piece.{spending, WithEvents, withEvents, lf, wayEvents, listedOf, keptOf, wentOf, worthyOf, afterTries, cutPieceOf}
 use Rattle.cutting.specs.declared.piece.State.{State as Plan}
 use Rattle.cutting.specs.declared.piece.Cut.{Cut}
 use Rattle.cutting.specs.declared.piece.Cut.the-variants.{Nothing, Kept, Refused}
@@ -57,7 +57,7 @@ Still (Kept t) p m m′ = Unit {0}
 Still (Refused n) p m m′ = m′ ≡ m
 
 -- from the state e, with the map m and the log's slice `log`
-pub record CutLegal (j : Job) (e : State) (m log : List ℕ) (new : List Chunk) (q : Told) : Type 0 where
+pub record CutLegal (j : Job) (e : State) (m log : List ℕ) (new : List Chunk) (q : WithEvents) : Type 0 where
   pub legal : LegalFrom j e (q .events)
   pub leaves : steps j e (q .events) ≡ state (st (q .left .map) (q .left .log) 0) (e .rows ++ listedBy (q .left .answer) new) (placedBy (q .left .answer) (e .position)) none
   pub still : Still (q .left .answer) (e .position) m (q .left .map)
@@ -66,8 +66,8 @@ pub record CutLegal (j : Job) (e : State) (m log : List ℕ) (new : List Chunk) 
   pub log-long : length (q .left .log) ≡ length log
 
 -- after events that list nothing
-more-legal : (j : Job) (e : State) (m log : List ℕ) (new : List Chunk) (k : Stock) (x : Option (List Point)) (es : List Event) (r : Told) → LegalFrom j e es → steps j e es ≡ state k (e .rows) (e .position) x
-    → CutLegal j (state k (e .rows) (e .position) x) m log new r → CutLegal j e m log new (told (r .left) (es ++ r .events))
+more-legal : (j : Job) (e : State) (m log : List ℕ) (new : List Chunk) (k : Stock) (x : Option (List Point)) (es : List Event) (r : WithEvents) → LegalFrom j e es → steps j e es ≡ state k (e .rows) (e .position) x
+    → CutLegal j (state k (e .rows) (e .position) x) m log new r → CutLegal j e m log new (withEvents (r .left) (es ++ r .events))
 more-legal j e m log new k x es r h d g = record {
   legal = legal-append j es (r .events) e h (subst (λ (f : State). LegalFrom j f (r .events)) (sym d) (g .legal));
   leaves = steps-append j es (r .events) e ∙ ap (λ (f : State). steps j f (r .events)) d ∙ g .leaves;
@@ -122,7 +122,7 @@ module _ (s : Setup) (wall vs : List Float) (lens start : List ℕ) (limit : Flo
           log-long = long;
         }
 
-    refused-legal : (num : ℕ) → CutLegal j (trialOf (suc n)) m log (chunksOf w (suc n)) (told (lf m d (k .log) rows o (Refused num)) (withdrawn ∷ []))
+    refused-legal : (num : ℕ) → CutLegal j (trialOf (suc n)) m log (chunksOf w (suc n)) (withEvents (lf m d (k .log) rows o (Refused num)) (withdrawn ∷ []))
     unfolding steps step
     refused-legal num = record {
       legal = (record { points = pn; on = refl }, tt);
@@ -165,7 +165,7 @@ module _ (s : Setup) (wall vs : List Float) (lens allowed : List ℕ) (pts : Lis
       abbrev here : State
       here = state (st m log 0) cs (positionOf (t .pos)) none
 
-      abbrev Fits : Told → Type 0
+      abbrev Fits : WithEvents → Type 0
       Fits r = CutLegal job here m log (newAfter (q .outcome)) r
 
       module _ (h : TriesLegal job here (t .triples) m log (q .outcome) (q .events)) where
@@ -174,7 +174,7 @@ module _ (s : Setup) (wall vs : List Float) (lens allowed : List ℕ) (pts : Lis
 
         -- nothing is on trial
         quiet : (x : Cut) → listedBy x (newAfter c) ≡ [] → placedBy x (positionOf (t .pos)) ≡ positionOf (t .pos) → Still x (positionOf (t .pos)) m m → c .attempt .worth ≡ false
-            → Fits (told (lf m d (c .log) rows (c .out) x) (q .events))
+            → Fits (withEvents (lf m d (c .log) rows (c .out) x) (q .events))
         quiet x a b y w = record {
           legal = h .legal;
           leaves = h .idle w ∙ (λ i. state (st m (c .log) 0) ((sym (append-nil cs) ∙ ap (λ (n : List Chunk). cs ++ n) (sym a)) i) (sym b i) none);
@@ -184,7 +184,7 @@ module _ (s : Setup) (wall vs : List Float) (lens allowed : List ℕ) (pts : Lis
           log-long = h .long;
         }
 
-        worthy : c .attempt .worth ≡ true → Fits (told (worthyOf s wall vs lens allowed pts closed t m d rows c .left) (q .events ++ worthyOf s wall vs lens allowed pts closed t m d rows c .events))
+        worthy : c .attempt .worth ≡ true → Fits (withEvents (worthyOf s wall vs lens allowed pts closed t m d rows c .left) (q .events ++ worthyOf s wall vs lens allowed pts closed t m d rows c .events))
         unfolding worthyOf wentOf
         worthy w =
             let T = h .trial w in
@@ -207,7 +207,7 @@ module _ (s : Setup) (wall vs : List Float) (lens allowed : List ℕ) (pts : Lis
     unfolding cutPieceOf
     cut-legal o e a b x =
         let q : Tries = triesOf s (allowedAt s wall vs lens) pts closed (t .pos) (t .triples) m log o in
-        let r : Told = afterTries s wall vs lens allowed pts closed t m d rows q in
+        let r : WithEvents = afterTries s wall vs lens allowed pts closed t m d rows q in
         from-idle (λ (f : State). CutLegal job f m log (newAfter (q .outcome)) r) e (st m log 0) a b
         (subst (λ (p : Option Vec2). CutLegal job (state (st m log 0) (e .rows) p none) m log (newAfter (q .outcome)) r) (sym x)
         (after-legal (e .rows) q

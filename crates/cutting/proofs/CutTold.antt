@@ -19,7 +19,7 @@ use Rattle.events.specs.Told.{Told}
 use Rattle.events.proofs.GrowLaws.{after-append, legal-more, inv-all}
 use Rattle.passes.specs.Tried.{Measured}
 use Rattle.cutting.specs.Tries.{triesOf}
-use Rattle.cutting.specs.Piece.{Left, Told as Piece, cutPieceOf}
+use Rattle.cutting.specs.Piece.{Left, WithEvents, cutPieceOf}
 use Rattle.cutting.specs.declared.piece.State.{State as Plan}
 use Rattle.cutting.specs.declared.piece.Cut.{Cut}
 use Rattle.cutting.specs.declared.piece.Cut.the-variants.{Nothing, Kept, Refused}
@@ -50,7 +50,7 @@ Answers e (Kept t) = Agrees e t
 Answers e (Refused n) = Unit {0}
 
 -- q came of the map m, the log's slice l, rows and triples after the events es
-pub record CutTold (j : Job) (log : List ℕ) (es : List Event) (m l rows : List ℕ) (o : List Float) (q : Piece) : Type 0 where
+pub record CutTold (j : Job) (log : List ℕ) (es : List Event) (m l rows : List ℕ) (o : List Float) (q : WithEvents) : Type 0 where
   pub planned : Planned j log (es ++ q .events) (q .left .map) (q .left .log) (q .left .rows) (q .left .out)
   pub told : Told j (after j log (es ++ q .events))
   pub answers : Answers (after j log (es ++ q .events)) (q .left .answer)
@@ -72,7 +72,7 @@ module _ (j : Job) (log : List ℕ) (F : Fit j log) (es : List Event) (m l rows 
       subst (λ (k : Stock). Ready (st (k .cells) (k .log) 0)) (P .stock) (ready-for (after j log es .stock .cells) (after j log es .stock .log) (i .room) (i .small))
 
   -- what is legal and leaves chunks that the slices hold is a plan so far again
-  planned-more : (q : Piece) (new : List Chunk) → CutLegal j (after j log es) m l new q → CutHolds rows o (after j log es .rows) new (q .left) → CutTold j log es m l rows o q
+  planned-more : (q : WithEvents) (new : List Chunk) → CutLegal j (after j log es) m l new q → CutHolds rows o (after j log es .rows) new (q .left) → CutTold j log es m l rows o q
   planned-more q new g h =
       let x = after-append j log es (q .events) ∙ g .leaves in
       let legal : Legal j log (es ++ q .events) = legal-more j log es (q .events) (P .legal) (g .legal) in

@@ -9,18 +9,19 @@ use lib.Ieee.{Float}
 use Rattle.loops.specs.Regions.{within}
 use Rattle.loops.proofs.Cases.{by-test}
 use Rattle.loops.proofs.RegionLaws.{region-long}
+use Rattle.loops.specs.Frame.{Only}
+use Rattle.loops.proofs.FrameLaws.{only-after}
 use Rattle.geom.specs.Points.{points}
 use Rattle.geom.specs.declared.vec2.Vec2.{Vec2}
 use Rattle.geom.proofs.PointLaws.{points-length}
 use Rattle.raster.specs.Grid.{Over, Sides}
 use Rattle.raster.specs.Log.{Logged}
-use Rattle.setup.specs.Layout.{run}
+use Rattle.setup.specs.Layout.{run, allowedFrom, logFrom, pathFrom}
 use Rattle.setup.specs.declared.Setup.{Setup}
-use Rattle.loops.specs.Frame.{Only}
-use Rattle.links.specs.Path.{Way, lost, way, wallIn, Fitted}
+use Rattle.setup.proofs.PartLaws.{part-is, part-long}
+use Rattle.links.specs.Path.{Way, lost, way, wallIn, pathIn, Fitted}
 use Rattle.links.specs.Link.{Linked, linkPath, linkedIn}
 use Rattle.links.specs.declared.link.Route.{Route}
-use Rattle.loops.proofs.FrameLaws.{only-after}
 use Rattle.links.proofs.WayLaws.{link-few}
 use Rattle.events.specs.Read.{spotAt}
 use Rattle.passes.specs.declared.start.Place.{Place}
@@ -29,7 +30,6 @@ use Rattle.cutting.specs.Way.{routeOf}
 use Rattle.cutting.specs.Piece.{spending, Left, lf, keptOf, wentOf, Lends, Listed}
 use Rattle.cutting.specs.declared.piece.State.{State}
 use Rattle.cutting.specs.declared.piece.Cut.{Cut}
-use Rattle.setup.proofs.PartLaws.{part-is, part-long}
 
 -- a way has at most n points
 abbrev Few : ℕ → Way → Type 0
@@ -61,7 +61,8 @@ module _ (s : Setup) (S : Sides (s .grid)) (wall vs : List Float) (lens m allowe
   route-counts Nowhere = tt
   route-counts (At a) = by-test (λ (r : Linked). Few cells (r .path)) (s .«keep_down») _ _ (λ b. link-counts a _ refl) (λ b. tt)
 
-module _ (s : Setup) (vs : List Float) (lens b u : List ℕ) (w : List Float) (F : Fitted s vs lens (run 0 (s .grid .ny * s .grid .nx) b) w) (D : Lends (s .grid .ny * s .grid .nx) b u) where
+module _ (s : Setup) (vs : List Float) (lens b u : List ℕ) (w : List Float) (F : Fitted s vs lens (run 0 (s .grid .ny * s .grid .nx) b) w) (D : Lends (s .grid .ny * s .grid .nx) b u)
+    (from : ℕ) (A : from ≡ allowedFrom (s .grid .ny * s .grid .nx)) where
   abbrev size : ℕ
   size = s .grid .ny * s .grid .nx
 
@@ -70,44 +71,49 @@ module _ (s : Setup) (vs : List Float) (lens b u : List ℕ) (w : List Float) (F
   mapPart = take (size - 0) (drop 0 b)
 
   abbrev allowedPart : List ℕ
-  allowedPart = take (2 * size - size) (drop size b)
+  allowedPart = take (from + size - from) (drop from b)
 
   map-is : mapPart ≡ run 0 size b
   map-is = part-is 0 size 0 size b (omega arith) (omega arith)
 
   allowed-is : allowedPart ≡ run 1 size b
-  allowed-is = part-is 1 size size (2 * size) b (omega arith) (omega arith)
+  allowed-is = part-is 1 size from (from + size) b A refl
 
   pub way-asks : Fitted s vs lens mapPart w × (Over (s .grid) (length allowedPart) × (15 * size ≤ length u))
   way-asks = (
     subst (λ (m : List ℕ). Fitted s vs lens m w) (sym map-is) F,
-    (record { sides = F .over .sides; long = omega (arith, part-long 1 size size (2 * size) b (omega arith) (omega arith) (omega (arith, D .bytes))) }, omega (arith, D .words)),
+    (record { sides = F .over .sides; long = omega (arith, part-long 1 size from (from + size) b A refl (omega (arith, D .bytes))) }, omega (arith, D .words)),
   )
 
-  -- the way r to the pass's first point, laid in w′, its points counted, and the state t′ that its work leaves
+  -- the way r to the pass's first point, laid in w′, its points counted, the state t′ that its work leaves, and where log and path begin
   module _ (t : State) (o : List Float) (to : Vec2) (T : to ≡ spotAt o (t .triples)) (r : Route) (u′ : List ℕ) (w′ : List Float)
       (R : linkedIn s r w′ ≡ routeOf s (wallIn s w) vs lens mapPart allowedPart (t .pos) to) (U : Only 0 (15 * size) u u′)
-      (W : Only (10 * size) (23 * size) w w′) (count : ℕ) (C : count ≡ pointsOf (r .found) (r .points)) (t′ : State) (E : t′ ≡ spending (r .work) t) where
+      (W : Only (10 * size) (23 * size) w w′) (count : ℕ) (C : count ≡ pointsOf (r .found) (r .points)) (t′ : State) (E : t′ ≡ spending (r .work) t)
+      (log path : ℕ) (G : log ≡ logFrom size) (P : path ≡ pathFrom size) where
     abbrev logPart : List ℕ
-    logPart = take (24 * size + size - 24 * size) (drop (24 * size) u′)
+    logPart = take (log + size - log) (drop log u′)
 
     abbrev pathPart : List Float
-    pathPart = take (23 * size - 20 * size) (drop (20 * size) w′)
+    pathPart = take (path + 3 * size - path) (drop path w′)
 
     log-same : run 24 size u′ ≡ run 24 size u
     log-same = only-after 0 (15 * size) u (record { start = omega arith; end = omega (arith, D .words) }) u′ U (24 * size) (24 * size + size) (omega arith)
 
     log-is : logPart ≡ run 24 size u
+    log-is = part-is 24 size log (log + size) u′ G refl ∙ log-same
+
+    path-is : pathPart ≡ pathIn s w′
     unfolding within
-    log-is = log-same
+    path-is =
+        let e : path + 3 * size ≡ 23 * size = omega arith in
+        ap (λ (z : ℕ). take (z - path) (drop path w′)) e ∙ ap (λ (z : ℕ). take (23 * size - z) (drop z w′)) P
 
     path-long : length pathPart ≡ 3 * size
-    path-long = region-long (20 * size) (23 * size) w′ (record { start = omega arith; end = omega (arith, F .long, W .long) }) ∙ (let z : 23 * size - 20 * size ≡ 3 * size = omega arith in z)
+    path-long = region-long path (path + 3 * size) w′ (record { start = omega arith; end = omega (arith, F .long, W .long) }) ∙ (let z : path + 3 * size - path ≡ 3 * size = omega arith in z)
 
     count-few : count ≤ size
-    unfolding within
     count-few =
-        let few = counted-few size (r .found) (r .points) pathPart (subst (Few size) (sym (ap (λ (l : Linked). l .path) R)) (route-counts s (F .over .sides) (wallIn s w) vs lens mapPart allowedPart to (t .pos))) in
+        let few = counted-few size (r .found) (r .points) (pathIn s w′) (subst (Few size) (sym (ap (λ (l : Linked). l .path) R)) (route-counts s (F .over .sides) (wallIn s w) vs lens mapPart allowedPart to (t .pos))) in
         omega (arith, few, C)
 
     pub keep-asks : (rows : List ℕ) (removed n : ℕ) → Logged (run 24 size u) removed size → Listed rows o t n → 1 ≤ n
@@ -136,15 +142,17 @@ module _ (s : Setup) (vs : List Float) (lens b u : List ℕ) (w : List Float) (F
         ∙ ap (routeOf s (wallIn s w) vs lens (run 0 size b) (run 1 size b) (t .pos)) T
 
     way-found : cond (r .found) (way (points 0 count pathPart)) lost ≡ route .path
-    unfolding within
-    way-found = ap (λ (k : ℕ). cond (r .found) (way (points 0 k pathPart)) lost) C ∙ counted-same (r .found) (r .points) pathPart ∙ ap (λ (l : Linked). l .path) route-is
+    way-found =
+        ap (λ (l : List Float). cond (r .found) (way (points 0 count l)) lost) path-is
+        ∙ ap (λ (k : ℕ). cond (r .found) (way (points 0 k (pathIn s w′))) lost) C
+        ∙ counted-same (r .found) (r .points) (pathIn s w′) ∙ ap (λ (l : Linked). l .path) route-is
 
     spent : t′ ≡ spending (route .work) t
     spent = E ∙ ap (λ (l : Linked). spending (l .work) t) route-is
 
     module _ (rows : List ℕ) (removed n : ℕ) where
       abbrev keeps : Way → State → List ℕ → Left
-      keeps p x log = keptOf s p removed n x (run 0 size b) (run 4 size b) log rows o .left
+      keeps p x l = keptOf s p removed n x (run 0 size b) (run 4 size b) l rows o .left
 
       pub went-is : (b′ rows′ : List ℕ) (o′ : List Float) (a : Cut)
           → lf (run 0 size b′) (run 4 size b′) logPart rows′ o′ a ≡ keeps (cond (r .found) (way (points 0 count pathPart)) lost) t′ logPart

@@ -22,7 +22,7 @@ use Rattle.passes.specs.Shifts.{satAdd}
 use Rattle.passes.specs.declared.start.Place.the-variants.{At}
 use Rattle.cutting.specs.Way.{wayChunks}
 use Rattle.cutting.specs.Listing.{needs, refusalOf, greatestOf}
-use Rattle.cutting.specs.Piece.{sta, spending, Left, lf, Told, told, newOf, listedOf, keptOf, Listed, Settled}
+use Rattle.cutting.specs.Piece.{sta, spending, Left, lf, WithEvents, withEvents, newOf, listedOf, keptOf, Listed, Settled}
 use Rattle.cutting.specs.declared.piece.State.{State}
 use Rattle.cutting.specs.declared.piece.Cut.{Cut}
 use Rattle.cutting.specs.declared.piece.Cut.the-variants.{Kept, Refused}
@@ -54,11 +54,11 @@ module _ (s : Setup) (t : State) (b log : List ℕ) (path o : List Float) (rows 
   abbrev wanted : ℕ
   wanted = refusalOf (length o / 3 - t .triples) (length rows / 3 - t .rows) (needs new)
 
-  abbrev listed : Told
+  abbrev listed : WithEvents
   listed = listedOf s by removed n t (run 0 size b) (run 4 size b) log rows o
 
-  abbrev refused : Told
-  refused = told (lf (run 0 size b) (run 4 size b) log rows o (Refused wanted)) (withdrawn ∷ [])
+  abbrev refused : WithEvents
+  refused = withEvents (lf (run 0 size b) (run 4 size b) log rows o (Refused wanted)) (withdrawn ∷ [])
 
   left-is : (q : Bool) → eqb wanted 0 ≡ q → left ≡ cond q listed refused .left
   unfolding keptOf

@@ -7,17 +7,18 @@ use native.Mathlib.Omega.{arith}
 use lib.ListN.{length, take, drop}
 use lib.Ieee.{Float}
 use borrow.Rule.Slice.PartMut.{putMid, put-same}
-use Rattle.loops.specs.Regions.{Fits}
+use Rattle.loops.specs.Regions.{Fits, within}
+use Rattle.loops.specs.Frame.{Only}
+use Rattle.loops.proofs.FrameLaws.{back-there, back-only, only-more, only-before, only-after, only-rest, only-wider}
 use Rattle.geom.specs.declared.vec2.Vec2.{Vec2}
 use Rattle.raster.specs.Log.{st, Ready, Logged}
 use Rattle.raster.proofs.RunLaws.{ready-for}
 use Rattle.setup.specs.Layout.{run, guideFrom, segmentsFrom, logFrom}
 use Rattle.setup.specs.Place.{allowedAt}
 use Rattle.setup.specs.declared.Setup.{Setup}
-use Rattle.loops.specs.Frame.{Only}
+use Rattle.setup.proofs.PartLaws.{part-is, run-long}
 use Rattle.links.specs.Path.{wallIn, Fitted}
 use Rattle.links.proofs.LinkLaws.{wall-kept, fitted-kept}
-use Rattle.loops.proofs.FrameLaws.{back-there, back-only, only-more, only-before, only-after, only-rest, only-wider}
 use Rattle.events.specs.Events.{Event}
 use Rattle.passes.specs.Guide.{pointsIn}
 use Rattle.passes.specs.Attempt.{Outcome, oc}
@@ -27,7 +28,6 @@ use Rattle.cutting.specs.Piece.{spending, Left, lf, wentOf, worthyOf, af
 use Rattle.cutting.specs.declared.piece.State.{State}
 use Rattle.cutting.specs.declared.piece.Cut.{Cut}
 use Rattle.cutting.specs.declared.piece.Cut.the-variants.{Nothing, Refused}
-use Rattle.setup.proofs.PartLaws.{part-is, run-long}
 use Rattle.cutting.proofs.SettleLaws.{settled-not}
 use Rattle.cutting.proofs.TriesKeep.{tries-log-long, tries-long, tries-logged, tries-room}
 
@@ -81,9 +81,6 @@ module _ (s : Setup) (t : State) (vs : List Float) (lens b u : List ℕ) (w o : 
   abbrev lentMap : List ℕ
   lentMap = take (size - 0) (drop 0 b)
 
-  abbrev lentLog : List ℕ
-  lentLog = take (24 * size + size - 24 * size) (drop (24 * size) u)
-
   abbrev may : Vec2 → Bool
   may = allowedAt s (wallIn s w) vs lens
 
@@ -97,12 +94,15 @@ module _ (s : Setup) (t : State) (vs : List Float) (lens b u : List ℕ) (w o : 
       ≡ cutPieceOf s (wallIn s w) vs lens (run 1 size b) (pointsIn from m w) closed t (run 0 size b) (run 4 size b) rows (run 24 size u) o .left)
       × (Settled size b b′ × (Behind size u u′ × Only (5 * size) (23 * size) w w′))
 
-  module _ (F : Fitted s vs lens (run 0 size b) w) (L : Lends size b u) (A : Among size from m) (K : Listed rows o t 0) where
+  module _ (F : Fitted s vs lens (run 0 size b) w) (L : Lends size b u) (A : Among size from m) (K : Listed rows o t 0) (log : ℕ) (G : log ≡ logFrom size) where
+    abbrev lentLog : List ℕ
+    lentLog = take (log + size - log) (drop log u)
+
     map-is : lentMap ≡ run 0 size b
     map-is = part-is 0 size 0 size b (omega arith) (omega arith)
 
     log-is : lentLog ≡ run 24 size u
-    log-is = part-is 24 size (24 * size) (24 * size + size) u refl refl
+    log-is = part-is 24 size log (log + size) u G refl
 
     map-long : length (run 0 size b) ≡ size
     map-long = run-long 0 size b (omega (arith, L .bytes))
@@ -123,7 +123,7 @@ module _ (s : Setup) (t : State) (vs : List Float) (lens b u : List ℕ) (w o : 
     place : Fits (5 * size) (23 * size) w
     place = record { start = omega arith; end = omega (arith, F .long) }
 
-    log-place : Fits (24 * size) (24 * size + size) u
+    log-place : Fits log (log + size) u
     log-place = record { start = omega arith; end = omega (arith, L .words) }
 
     module _ (mp l : List ℕ) (w₁ o₁ : List Float) (a : Attempt) (M : mp ≡ lentMap) (W : Only (guideFrom size) (23 * size) w w₁)
@@ -132,7 +132,7 @@ module _ (s : Setup) (t : State) (vs : List Float) (lens b u : List ℕ) (w o : 
       b₁ = putMid 0 (size - 0) b mp
 
       abbrev u₁ : List ℕ
-      u₁ = putMid (24 * size) (24 * size + size - 24 * size) u l
+      u₁ = putMid log (log + size - log) u l
 
       -- the map comes back as it was
       b-same : b₁ ≡ b
@@ -152,10 +152,10 @@ module _ (s : Setup) (t : State) (vs : List Float) (lens b u : List ℕ) (w o : 
       o-long = ap (λ (c : Outcome). length (c .out)) is-tried ∙ tries-long s may (pointsIn from m w) closed (t .pos) (t .triples) (run 0 size b) (run 24 size u) o ready
 
       log-only : Only (24 * size) (24 * size + size) u u₁
-      log-only = back-only (24 * size) (24 * size + size) u log-place l l-long
+      log-only = subst (λ (z : ℕ). Only z (z + size) u u₁) G (back-only log (log + size) u log-place l l-long)
 
       log-there : run 24 size u₁ ≡ l
-      log-there = back-there (24 * size) (24 * size + size) u log-place l l-long
+      log-there = ap (λ (z : ℕ). within z (z + size) u₁) (sym G) ∙ back-there log (log + size) u log-place l l-long
 
       left-same : (r : Cut) → lf (run 0 size b₁) (run 4 size b₁) (run 24 size u₁) rows o₁ r ≡ lf (run 0 size b) (run 4 size b) l rows o₁ r
       left-same r = λ i. lf (run 0 size (b-same i)) (run 4 size (b-same i)) (log-there i) rows o₁ r

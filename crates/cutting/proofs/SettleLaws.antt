@@ -9,8 +9,8 @@ use Rattle.raster.specs.Log.{Logged, undone, redone}
 use Rattle.raster.proofs.LogLaws.{undone-long, redone-long}
 use Rattle.setup.specs.Layout.{run, putRun}
 use Rattle.setup.proofs.LayoutLaws.{run-put, run-other}
-use Rattle.cutting.specs.Piece.{Settled}
 use Rattle.setup.proofs.PartLaws.{part-is, part-long, run-long, back-is, put-run-long, run-same}
+use Rattle.cutting.specs.Piece.{Settled}
 
 module _ (n : ℕ) (b : List ℕ) (h : 8 * n ≤ length b) (log : List ℕ) (removed : ℕ) where
   abbrev cleared : List ℕ

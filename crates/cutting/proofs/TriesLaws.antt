@@ -11,6 +11,8 @@ use lib.Ieee.{Float}
 use Rattle.loops.specs.Loop.{Run, on, out, turn}
 use Rattle.loops.specs.Regions.{Fits, within, put}
 use Rattle.loops.proofs.LoopLaws.{Going, going-none, going-on, going-out, going-end}
+use Rattle.loops.specs.Frame.{Only}
+use Rattle.loops.proofs.FrameLaws.{put-only, only-same, only-more, only-before, only-wider}
 use Rattle.geom.specs.Points.{points}
 use Rattle.geom.specs.declared.vec2.Vec2.{Vec2}
 use Rattle.geom.proofs.PointLaws.{points-length}
@@ -19,10 +21,8 @@ use Rattle.raster.specs.Log.{st, Ready}
 use Rattle.setup.specs.Layout.{most, guideFrom, rimFrom}
 use Rattle.setup.specs.Place.{Walls, allowedAt, freeAt}
 use Rattle.setup.specs.declared.Setup.{Setup}
-use Rattle.loops.specs.Frame.{Only}
 use Rattle.links.specs.Path.{wallIn, Fitted}
 use Rattle.links.proofs.LinkLaws.{wall-kept, fitted-kept}
-use Rattle.loops.proofs.FrameLaws.{put-only, only-same, only-more, only-before, only-wider}
 use Rattle.events.specs.Events.{Event}
 use Rattle.passes.specs.Shifts.{satAdd}
 use Rattle.passes.specs.Guide.{walkOf, blendOf, flat, pointsIn, bentOr}

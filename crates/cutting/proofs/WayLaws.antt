@@ -6,12 +6,12 @@ use Prim.Native.Nat.{ℕ, _*_, _≤_}
 use native.Mathlib.Omega.{arith}
 use lib.ListN.{length}
 use lib.Ieee.{Float}
+use Rattle.loops.specs.Frame.{Only}
+use Rattle.loops.proofs.FrameLaws.{only-same}
 use Rattle.geom.specs.declared.vec2.Vec2.{Vec2}
 use Rattle.setup.specs.declared.Setup.{Setup}
-use Rattle.loops.specs.Frame.{Only}
 use Rattle.links.specs.Path.{lost, wallIn, Fitted}
 use Rattle.links.specs.Link.{Linked, linked, linkPath, linkedIn, noRoute}
-use Rattle.loops.proofs.FrameLaws.{only-same}
 use Rattle.passes.specs.declared.start.Place.{Place}
 use Rattle.passes.specs.declared.start.Place.the-variants.{At, Nowhere}
 use Rattle.cutting.specs.Way.{routeOf}

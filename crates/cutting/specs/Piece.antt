@@ -10,7 +10,7 @@ use lib.Ieee.{Float}
 use Rattle.loops.specs.Regions.{within}
 use Rattle.geom.specs.declared.vec2.Vec2.{Vec2}
 use Rattle.raster.specs.Log.{undone, redone}
-use Rattle.setup.specs.Layout.{run, putRun, segmentsFrom, logFrom}
+use Rattle.setup.specs.Layout.{putRun, mapIn, dirtyIn, segmentsFrom, logFrom}
 use Rattle.setup.specs.Place.{allowedAt}
 use Rattle.setup.specs.declared.Setup.{Setup}
 use Rattle.links.specs.Path.{Way, lost, way}
@@ -36,7 +36,7 @@ sta pos rows triples most work = record { pos = pos; rows = rows; triples = trip
 abbrev pub spending : ℕ → State → State
 spending w t = sta (t .pos) (t .rows) (t .triples) (t .«planned_max») (satAdd (t .work) w)
 
--- what is left of map, dirty cells, log, rows and triples, and the answer; the events beside
+-- what is left of map, dirty cells, log, rows and triples, and the answer
 pub record Left : Type 0 where
   pub map : List ℕ
   pub dirty : List ℕ
@@ -48,12 +48,13 @@ pub record Left : Type 0 where
 abbrev pub lf : List ℕ → List ℕ → List ℕ → List ℕ → List Float → Cut → Left
 lf m d l r o a = record { map = m; dirty = d; log = l; rows = r; out = o; answer = a }
 
-pub record Told : Type 0 where
+-- the same with the events that led there
+pub record WithEvents : Type 0 where
   pub left : Left
   pub events : List Event
 
-abbrev pub told : Left → List Event → Told
-told l es = record { left = l; events = es }
+abbrev pub withEvents : Left → List Event → WithEvents
+withEvents l es = record { left = l; events = es }
 
 -- ---- the way's events
 
@@ -77,19 +78,19 @@ module _ (s : Setup) (path : Way) (removed n : ℕ) (t : State) (m d log rows : 
   newOf = wayChunks path leadOf ++ (cut pointsOf ∷ [])
 
   -- where all of them fit: the logged cells are cleared for good and marked dirty, and the tool is at the pass's last point
-  unfoldable pub listedOf : Told
+  unfoldable pub listedOf : WithEvents
   listedOf =
-      told (lf (redone log 0 removed m) (undone log 0 removed d) log (putRows (t .rows) (rowsFrom (t .triples) newOf) rows) (gapTriples (t .triples) n (allTriples (wayChunks path leadOf)) o)
+      withEvents (lf (redone log 0 removed m) (undone log 0 removed d) log (putRows (t .rows) (rowsFrom (t .triples) newOf) rows) (gapTriples (t .triples) n (allTriples (wayChunks path leadOf)) o)
       (Kept (sta (At (spotAt o (t .triples + n - 1))) (t .rows + length newOf) (t .triples + length (allTriples newOf)) (greatestOf pointsOf (t .«planned_max»)) (t .work))))
       (wayEvents (s .«keep_down») (t .pos) path leadOf ++ (kept ∷ []))
 
-  unfoldable pub keptOf : Told
+  unfoldable pub keptOf : WithEvents
   keptOf =
       let no = refusalOf (length o / 3 - t .triples) (length rows / 3 - t .rows) (needs newOf) in
-      cond (eqb no 0) listedOf (told (lf m d log rows o (Refused no)) (withdrawn ∷ []))
+      cond (eqb no 0) listedOf (withEvents (lf m d log rows o (Refused no)) (withdrawn ∷ []))
 
 -- the way is judged on the map before the pass
-unfoldable pub wentOf : Setup → List Float → List Float → List ℕ → List ℕ → State → ℕ → ℕ → List ℕ → List ℕ → List ℕ → List ℕ → List Float → Told
+unfoldable pub wentOf : Setup → List Float → List Float → List ℕ → List ℕ → State → ℕ → ℕ → List ℕ → List ℕ → List ℕ → List ℕ → List Float → WithEvents
 wentOf s wall vs lens allowed t removed n m d log rows o =
     let r = routeOf s wall vs lens m allowed (t .pos) (spotAt o (t .triples)) in
     keptOf s (r .path) removed n (spending (r .work) t) m d log rows o
@@ -98,18 +99,18 @@ wentOf s wall vs lens allowed t removed n m d log rows o =
 
 module _ (s : Setup) (wall vs : List Float) (lens allowed : List ℕ) (pts : List Vec2) (closed : Bool) (t : State) (m d rows : List ℕ) where
   -- a pass that is worth it, after the tries
-  unfoldable pub worthyOf : Outcome → Told
+  unfoldable pub worthyOf : Outcome → WithEvents
   worthyOf c = let a = c .attempt in wentOf s wall vs lens allowed (spending (a .work) t) (a .removed) (a .points) m d (c .log) rows (c .out)
 
-  unfoldable pub afterTries : Tries → Told
+  unfoldable pub afterTries : Tries → WithEvents
   afterTries q =
       let c = q .outcome in
       let a = c .attempt in
-      cond (a .full) (told (lf m d (c .log) rows (c .out) (Refused 16)) (q .events))
-      (cond (a .worth) (told (worthyOf c .left) (q .events ++ worthyOf c .events))
-      (told (lf m d (c .log) rows (c .out) (Nothing (spending (a .work) t))) (q .events)))
+      cond (a .full) (withEvents (lf m d (c .log) rows (c .out) (Refused 16)) (q .events))
+      (cond (a .worth) (withEvents (worthyOf c .left) (q .events ++ worthyOf c .events))
+      (withEvents (lf m d (c .log) rows (c .out) (Nothing (spending (a .work) t))) (q .events)))
 
-  unfoldable pub cutPieceOf : List ℕ → List Float → Told
+  unfoldable pub cutPieceOf : List ℕ → List Float → WithEvents
   cutPieceOf log o = afterTries (triesOf s (allowedAt s wall vs lens) pts closed (t .pos) (t .triples) m log o)
 
 -- ---- what callers keep
@@ -130,7 +131,7 @@ pub record Listed (rows : List ℕ) (o : List Float) (t : State) (n : ℕ) : Typ
 -- of the bytes the stock map and the dirty cells are written, and no other
 pub record Settled (n : ℕ) (b b′ : List ℕ) : Type 0 where
   pub long : length b′ ≡ length b
-  pub rest : b′ ≡ putRun 4 n (run 4 n b′) (putRun 0 n (run 0 n b′) b)
+  pub rest : b′ ≡ putRun 4 n (dirtyIn n b′) (putRun 0 n (mapIn n b′) b)
 
 -- of the u32 the search's part and the log are written: the pieces stay, and what stands behind the log
 pub record Behind (n : ℕ) (u u′ : List ℕ) : Type 0 where

@@ -4,11 +4,12 @@ ghost use mathlib.Core.Path.{_≡_};
 ghost use mathlib.Core.Bool.{cond};
 ghost use Prim.Native.Nat.{_*_, _≤_};
 ghost use lib.ListN.{length};
+ghost use Rattle.loops.specs.Frame.{Only};
 ghost use Rattle.geom.specs.Points.{points};
 ghost use Rattle.raster.specs.Grid.{Sides};
 ghost use Rattle.raster.specs.Log.{undone, redone, Logged};
-ghost use Rattle.setup.specs.Layout.{most, run, putRun};
-ghost use Rattle.loops.specs.Frame.{Only};
+ghost use Rattle.setup.specs.Layout.{most, putRun, allowedIn, dirtyIn, logIn, mapIn, costFrom, guideFrom, pathEnd};
+ghost use Rattle.setup.specs.Place.{cellsOf};
 ghost use Rattle.links.specs.Path.{way, lost, wallIn, Fitted};
 ghost use Rattle.passes.specs.Guide.{pointsIn};
 ghost use Rattle.cutting.specs.Tries.{Among};
@@ -61,7 +62,7 @@ fn settle(b: &mut [u8], log: &[u32], n: usize, removed: usize)
     requires { ⌜ n ≤ most ⌝ }
     requires { ⌜ 8 * n ≤ length (now b) ⌝ }
     requires { ⌜ Logged (now log) removed n ⌝ }
-    ensures { λ _. ⌜ now (b .exit) ≡ putRun 4 n (undone (now (log .entry)) 0 removed (run 4 n (now (b .entry)))) (putRun 0 n (redone (now (log .entry)) 0 removed (run 0 n (now (b .entry)))) (now (b .entry))) ⌝ }
+    ensures { λ _. ⌜ now (b .exit) ≡ putRun 4 n (undone (now (log .entry)) 0 removed (dirtyIn n (now (b .entry)))) (putRun 0 n (redone (now (log .entry)) 0 removed (mapIn n (now (b .entry)))) (now (b .entry))) ⌝ }
 {
     let d = layout::dirty(n);
     let e = d + n;
@@ -85,13 +86,13 @@ fn keep_pass(
     n: usize,
 ) -> Cut
     requires { ⌜ Sides (s .grid) ⌝ }
-    requires { ⌜ 8 * (s .grid .ny * s .grid .nx) ≤ length (now b) ⌝ }
-    requires { ⌜ Logged (now log) removed (s .grid .ny * s .grid .nx) ⌝ }
+    requires { ⌜ 8 * cellsOf s ≤ length (now b) ⌝ }
+    requires { ⌜ Logged (now log) removed (cellsOf s) ⌝ }
     requires { ⌜ 2 * count ≤ length (now path) ⌝ }
     requires { ⌜ Listed (now rows) (now triples) t n ⌝ }
     requires { ⌜ 1 ≤ n ⌝ }
-    ensures { λ r. ⌜ lf (run 0 (s .grid .ny * s .grid .nx) (now (b .exit))) (run 4 (s .grid .ny * s .grid .nx) (now (b .exit))) (now (log .entry)) (now (rows .exit)) (now (triples .exit)) r ≡ keptOf s (cond found (way (points 0 count (now (path .entry)))) lost) removed n t (run 0 (s .grid .ny * s .grid .nx) (now (b .entry))) (run 4 (s .grid .ny * s .grid .nx) (now (b .entry))) (now (log .entry)) (now (rows .entry)) (now (triples .entry)) .left ⌝ }
-    ensures { λ _. ⌜ Settled (s .grid .ny * s .grid .nx) (now (b .entry)) (now (b .exit)) ⌝ }
+    ensures { λ r. ⌜ lf (mapIn (cellsOf s) (now (b .exit))) (dirtyIn (cellsOf s) (now (b .exit))) (now (log .entry)) (now (rows .exit)) (now (triples .exit)) r ≡ keptOf s (cond found (way (points 0 count (now (path .entry)))) lost) removed n t (mapIn (cellsOf s) (now (b .entry))) (dirtyIn (cellsOf s) (now (b .entry))) (now (log .entry)) (now (rows .entry)) (now (triples .entry)) .left ⌝ }
+    ensures { λ _. ⌜ Settled (cellsOf s) (now (b .entry)) (now (b .exit)) ⌝ }
 {
     let first = t.triples;
     let row = t.rows;
@@ -138,29 +139,40 @@ fn go_and_keep(
     removed: usize,
     n: usize,
 ) -> Cut
-    requires { ⌜ Fitted s (now vs) (now lens) (run 0 (s .grid .ny * s .grid .nx) (now b)) (now w) ⌝ }
-    requires { ⌜ Lends (s .grid .ny * s .grid .nx) (now b) (now u) ⌝ }
-    requires { ⌜ Logged (run 24 (s .grid .ny * s .grid .nx) (now u)) removed (s .grid .ny * s .grid .nx) ⌝ }
+    requires { ⌜ Fitted s (now vs) (now lens) (mapIn (cellsOf s) (now b)) (now w) ⌝ }
+    requires { ⌜ Lends (cellsOf s) (now b) (now u) ⌝ }
+    requires { ⌜ Logged (logIn (cellsOf s) (now u)) removed (cellsOf s) ⌝ }
     requires { ⌜ Listed (now rows) (now triples) t n ⌝ }
     requires { ⌜ 1 ≤ n ⌝ }
-    ensures { λ r. ⌜ lf (run 0 (s .grid .ny * s .grid .nx) (now (b .exit))) (run 4 (s .grid .ny * s .grid .nx) (now (b .exit))) (run 24 (s .grid .ny * s .grid .nx) (now (u .exit))) (now (rows .exit)) (now (triples .exit)) r ≡ wentOf s (wallIn s (now (w .entry))) (now (vs .entry)) (now (lens .entry)) (run 1 (s .grid .ny * s .grid .nx) (now (b .entry))) t removed n (run 0 (s .grid .ny * s .grid .nx) (now (b .entry))) (run 4 (s .grid .ny * s .grid .nx) (now (b .entry))) (run 24 (s .grid .ny * s .grid .nx) (now (u .entry))) (now (rows .entry)) (now (triples .entry)) .left ⌝ }
-    ensures { λ _. ⌜ Settled (s .grid .ny * s .grid .nx) (now (b .entry)) (now (b .exit)) ⌝ }
-    ensures { λ _. ⌜ Only 0 (15 * (s .grid .ny * s .grid .nx)) (now (u .entry)) (now (u .exit)) ⌝ }
-    ensures { λ _. ⌜ Only (10 * (s .grid .ny * s .grid .nx)) (23 * (s .grid .ny * s .grid .nx)) (now (w .entry)) (now (w .exit)) ⌝ }
+    ensures { λ r. ⌜ lf (mapIn (cellsOf s) (now (b .exit))) (dirtyIn (cellsOf s) (now (b .exit))) (logIn (cellsOf s) (now (u .exit))) (now (rows .exit)) (now (triples .exit)) r ≡ wentOf s (wallIn s (now (w .entry))) (now (vs .entry)) (now (lens .entry)) (allowedIn (cellsOf s) (now (b .entry))) t removed n (mapIn (cellsOf s) (now (b .entry))) (dirtyIn (cellsOf s) (now (b .entry))) (logIn (cellsOf s) (now (u .entry))) (now (rows .entry)) (now (triples .entry)) .left ⌝ }
+    ensures { λ _. ⌜ Settled (cellsOf s) (now (b .entry)) (now (b .exit)) ⌝ }
+    ensures { λ _. ⌜ Only 0 (15 * cellsOf s) (now (u .entry)) (now (u .exit)) ⌝ }
+    ensures { λ _. ⌜ Only (costFrom (cellsOf s)) (pathEnd (cellsOf s)) (now (w .entry)) (now (w .exit)) ⌝ }
 {
     let size = s.grid.ny * s.grid.nx;
     let to = spot(triples, t.triples);
     let pos = t.pos;
-    let r = way_to(s, vs, lens, &b[0..size], &b[size..2 * size], u, w, pos, to);
+    let allowed = layout::allowed(size);
+    let r = way_to(
+        s,
+        vs,
+        lens,
+        &b[0..size],
+        &b[allowed..allowed + size],
+        u,
+        w,
+        pos,
+        to,
+    );
     let count = points_of(r);
-    let log = 24 * size;
-    let path = 20 * size;
+    let log = layout::log(size);
+    let path = layout::path(size);
     keep_pass(
         s,
         spend(t, r.work),
         b,
         &u[log..log + size],
-        &w[path..23 * size],
+        &w[path..path + 3 * size],
         triples,
         rows,
         r.found,
@@ -185,17 +197,17 @@ pub fn cut_piece(
     m: usize,
     closed: bool,
 ) -> Cut
-    requires { ⌜ Fitted s (now vs) (now lens) (run 0 (s .grid .ny * s .grid .nx) (now b)) (now w) ⌝ }
-    requires { ⌜ Lends (s .grid .ny * s .grid .nx) (now b) (now u) ⌝ }
-    requires { ⌜ Among (s .grid .ny * s .grid .nx) from m ⌝ }
+    requires { ⌜ Fitted s (now vs) (now lens) (mapIn (cellsOf s) (now b)) (now w) ⌝ }
+    requires { ⌜ Lends (cellsOf s) (now b) (now u) ⌝ }
+    requires { ⌜ Among (cellsOf s) from m ⌝ }
     requires { ⌜ Listed (now rows) (now triples) t 0 ⌝ }
-    ensures { λ r. ⌜ lf (run 0 (s .grid .ny * s .grid .nx) (now (b .exit))) (run 4 (s .grid .ny * s .grid .nx) (now (b .exit))) (run 24 (s .grid .ny * s .grid .nx) (now (u .exit))) (now (rows .exit)) (now (triples .exit)) r ≡ cutPieceOf s (wallIn s (now (w .entry))) (now (vs .entry)) (now (lens .entry)) (run 1 (s .grid .ny * s .grid .nx) (now (b .entry))) (pointsIn from m (now (w .entry))) closed t (run 0 (s .grid .ny * s .grid .nx) (now (b .entry))) (run 4 (s .grid .ny * s .grid .nx) (now (b .entry))) (now (rows .entry)) (run 24 (s .grid .ny * s .grid .nx) (now (u .entry))) (now (triples .entry)) .left ⌝ }
-    ensures { λ _. ⌜ Settled (s .grid .ny * s .grid .nx) (now (b .entry)) (now (b .exit)) ⌝ }
-    ensures { λ _. ⌜ Behind (s .grid .ny * s .grid .nx) (now (u .entry)) (now (u .exit)) ⌝ }
-    ensures { λ _. ⌜ Only (5 * (s .grid .ny * s .grid .nx)) (23 * (s .grid .ny * s .grid .nx)) (now (w .entry)) (now (w .exit)) ⌝ }
+    ensures { λ r. ⌜ lf (mapIn (cellsOf s) (now (b .exit))) (dirtyIn (cellsOf s) (now (b .exit))) (logIn (cellsOf s) (now (u .exit))) (now (rows .exit)) (now (triples .exit)) r ≡ cutPieceOf s (wallIn s (now (w .entry))) (now (vs .entry)) (now (lens .entry)) (allowedIn (cellsOf s) (now (b .entry))) (pointsIn from m (now (w .entry))) closed t (mapIn (cellsOf s) (now (b .entry))) (dirtyIn (cellsOf s) (now (b .entry))) (now (rows .entry)) (logIn (cellsOf s) (now (u .entry))) (now (triples .entry)) .left ⌝ }
+    ensures { λ _. ⌜ Settled (cellsOf s) (now (b .entry)) (now (b .exit)) ⌝ }
+    ensures { λ _. ⌜ Behind (cellsOf s) (now (u .entry)) (now (u .exit)) ⌝ }
+    ensures { λ _. ⌜ Only (guideFrom (cellsOf s)) (pathEnd (cellsOf s)) (now (w .entry)) (now (w .exit)) ⌝ }
 {
     let n = s.grid.ny * s.grid.nx;
-    let log = 24 * n;
+    let log = layout::log(n);
     let pos = t.pos;
     let a = try_piece(
         s,

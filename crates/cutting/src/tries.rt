@@ -3,10 +3,10 @@ ghost use mathlib.Core.Path.{_≡_};
 ghost use mathlib.Core.Bool.{cond};
 ghost use Prim.Native.Nat.{_+_, _*_, _≤_};
 ghost use lib.ListN.{length};
-ghost use Rattle.raster.specs.Log.{st, Ready};
-ghost use Rattle.setup.specs.Layout.{most, guideFrom};
-ghost use Rattle.setup.specs.Place.{allowedAt, freeAt};
 ghost use Rattle.loops.specs.Frame.{Only};
+ghost use Rattle.raster.specs.Log.{st, Ready};
+ghost use Rattle.setup.specs.Layout.{most, guideFrom, pathEnd};
+ghost use Rattle.setup.specs.Place.{allowedAt, freeAt, cellsOf};
 ghost use Rattle.links.specs.Path.{wallIn, Fitted};
 ghost use Rattle.passes.specs.Guide.{pointsIn, blendOf};
 ghost use Rattle.passes.specs.Start.{nearOf};
@@ -72,10 +72,10 @@ fn try_from(
 ) -> Attempt
     requires { ⌜ Fitted s (now vs) (now lens) (now map) (now w) ⌝ }
     requires { ⌜ Ready (st (now map) (now log) 0) ⌝ }
-    requires { ⌜ Among (s .grid .ny * s .grid .nx) from m ⌝ }
+    requires { ⌜ Among (cellsOf s) from m ⌝ }
     requires { ⌜ start + guideLong m closed ≤ 2 * m ⌝ }
     ensures { λ _. ⌜ now (map .exit) ≡ now (map .entry) ⌝ }
-    ensures { λ _. ⌜ Only (guideFrom (s .grid .ny * s .grid .nx)) (23 * (s .grid .ny * s .grid .nx)) (now (w .entry)) (now (w .exit)) ⌝ }
+    ensures { λ _. ⌜ Only (guideFrom (cellsOf s)) (pathEnd (cellsOf s)) (now (w .entry)) (now (w .exit)) ⌝ }
     ensures { λ r. ⌜ oc (now (log .exit)) (now (triples .exit)) r ≡ startBy s (allowedAt s (wallIn s (now (w .entry))) (now (vs .entry)) (now (lens .entry))) (blendOf s (allowedAt s (wallIn s (now (w .entry))) (now (vs .entry)) (now (lens .entry))) (freeAt s (now (map .entry))) (guideOf (pointsIn from m (now (w .entry))) closed start)) kept (now (map .entry)) (now (log .entry)) (now (triples .entry)) ⌝ }
 {
     let n = layout::cells(s.grid);
@@ -120,9 +120,9 @@ pub fn try_piece(
 ) -> Attempt
     requires { ⌜ Fitted s (now vs) (now lens) (now map) (now w) ⌝ }
     requires { ⌜ Ready (st (now map) (now log) 0) ⌝ }
-    requires { ⌜ Among (s .grid .ny * s .grid .nx) from m ⌝ }
+    requires { ⌜ Among (cellsOf s) from m ⌝ }
     ensures { λ _. ⌜ now (map .exit) ≡ now (map .entry) ⌝ }
-    ensures { λ _. ⌜ Only (guideFrom (s .grid .ny * s .grid .nx)) (23 * (s .grid .ny * s .grid .nx)) (now (w .entry)) (now (w .exit)) ⌝ }
+    ensures { λ _. ⌜ Only (guideFrom (cellsOf s)) (pathEnd (cellsOf s)) (now (w .entry)) (now (w .exit)) ⌝ }
     ensures { λ r. ⌜ oc (now (log .exit)) (now (triples .exit)) r ≡ triesOf s (allowedAt s (wallIn s (now (w .entry))) (now (vs .entry)) (now (lens .entry))) (pointsIn from m (now (w .entry))) closed pos kept (now (map .entry)) (now (log .entry)) (now (triples .entry)) .outcome ⌝ }
 {
     let near = first(w, from, m, closed, pos);

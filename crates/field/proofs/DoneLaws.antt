@@ -18,12 +18,12 @@ use Rattle.raster.specs.declared.grid.Grid.{Grid}
 use Rattle.setup.specs.Layout.{run, putRun}
 use Rattle.setup.specs.declared.Setup.{Setup}
 use Rattle.setup.proofs.LayoutLaws.{run-put, run-other}
+use Rattle.setup.proofs.PartLaws.{part-is, part-long, run-long, back-is}
 use Rattle.field.specs.Field.{wantedAt, Sensed, sensed, fieldCell, fieldRow, fieldRows, fieldOf}
 use Rattle.field.specs.Gauge.{Sensing}
 use Rattle.field.specs.Round.{squaresPut, stockPut, nearPut, Begun, Ready, rowsIn, Rowed, roundOf, Done}
 use Rattle.field.specs.declared.gauge.Gauge.{Gauge}
 use Rattle.field.proofs.FieldLaws.{field-length}
-use Rattle.setup.proofs.PartLaws.{part-is, part-long, run-long, back-is}
 use Rattle.field.proofs.RoundLaws.{wide-cells}
 
 -- ---- the rows, over parts

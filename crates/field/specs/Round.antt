@@ -7,11 +7,11 @@ use lib.Ieee.{Float, nan}
 use Rattle.raster.specs.Contact.{samplesOf, Rim}
 use Rattle.setup.specs.declared.Setup.{Setup}
 use Prim.Native.Nat.{ℕ, _+_, _*_}
-use Rattle.raster.specs.declared.grid.Grid.{Grid}
-use Rattle.raster.specs.Grid.{Sides}
 use Rattle.loops.specs.Regions.{within, put}
 use Rattle.distance.specs.Nearest.{transformOf}
-use Rattle.setup.specs.Layout.{dirtyFrom, nearFrom, rimFrom, run, putRun, Lent}
+use Rattle.raster.specs.declared.grid.Grid.{Grid}
+use Rattle.raster.specs.Grid.{Sides}
+use Rattle.setup.specs.Layout.{dirtyFrom, nearFrom, rimFrom, run, putRun, Lent, mapIn, allowedIn, dirtyIn}
 use Rattle.field.specs.Field.{Sensed, sensed, fieldRows, fieldOf}
 
 -- the squares of the distance to cells that are marked in the bytes from a on are written to the words from c on, with what the transform leaves behind them
@@ -43,7 +43,7 @@ pub record Ready (s : Setup) (b u : List ℕ) (w f : List Float) : Type 0 where
 unfoldable pub rowsIn : Setup → Bool → List ℕ → List ℕ → List Float → Sensed
 rowsIn s all b u f =
     let n = s .grid .ny * s .grid .nx in
-    fieldRows s all (run 0 n b) (run 1 n b) (run 0 n u) (run 1 n u) (sensed (run 0 n f) 0)
+    fieldRows s all (mapIn n b) (allowedIn n b) (run 0 n u) (run 1 n u) (sensed (run 0 n f) 0)
 
 -- the rows are worked out into the f32's first run
 pub record Rowed (s : Setup) (all : Bool) (b u : List ℕ) (f : List Float) (r : ℕ) (f′ : List Float) : Type 0 where
@@ -53,7 +53,7 @@ pub record Rowed (s : Setup) (all : Bool) (b u : List ℕ) (f : List Float) (r :
 unfoldable pub roundOf : Setup → Bool → List ℕ → List ℕ → List Float → Sensed
 roundOf s all b u f =
     let n = s .grid .ny * s .grid .nx in
-    fieldOf s all (run 0 n b) (run 1 n b) (run 0 n u) (run 4 n b) (run 0 n f)
+    fieldOf s all (mapIn n b) (allowedIn n b) (run 0 n u) (dirtyIn n b) (run 0 n f)
 
 -- the field of a round: the bytes that mark dirty cells are cleared
 pub record Done (s : Setup) (all : Bool) (b u : List ℕ) (f : List Float) (r : ℕ) (b′ u′ : List ℕ) (f′ : List Float) : Type 0 where

@@ -15,6 +15,8 @@ use Rattle.loops.specs.Loop.{loop, Run, on, out, turn}
 use Rattle.loops.proofs.Cases.{by-test}
 use Rattle.loops.proofs.LoopLaws.{loop-keeps}
 use Rattle.loops.proofs.RegionLaws.{region-long}
+use Rattle.loops.specs.Frame.{Only}
+use Rattle.loops.proofs.FrameLaws.{back-there, back-only, only-same, only-more, only-before, only-after, only-wider}
 use Rattle.geom.specs.Points.{putPoint, points}
 use Rattle.geom.specs.declared.vec2.Vec2.{Vec2}
 use Rattle.distance.specs.Least as least
@@ -34,14 +36,12 @@ use Rattle.links.specs.declared.search.Sought.{Sought}
 use Rattle.links.specs.declared.path.Kept.{Kept}
 use Rattle.links.specs.declared.path.Kept.the-variants.{Lost, Points}
 use Rattle.links.specs.declared.link.Route.{Route}
-use Rattle.loops.specs.Frame.{Only}
 use Rattle.links.specs.Lattice.{latticeOf, nodes, Laid}
 use Rattle.links.specs.Search.{Search, Outcome, seekNext, seekStep, ended, started, seekOf, cells, squaresIn, Befores, outcomeIn}
 use Rattle.links.specs.Straight.{linkClear}
 use Rattle.links.specs.Path.{Way, lost, way, nodesOf, shortenOf, wallIn, pathIn, clearIn, Fitted, keptIn}
 use Rattle.links.specs.Link.{Linked, linked, aroundOf, betweenOf, linkPath, linkedIn, beforeIn, noRoute}
 use Rattle.links.proofs.LatticeLaws.{nodes-few, nodes-most}
-use Rattle.loops.proofs.FrameLaws.{back-there, back-only, only-same, only-more, only-before, only-after, only-wider}
 use Rattle.links.proofs.SeekLaws.{sound-seek}
 use Rattle.links.proofs.LayLaws.{points-front}
 use Rattle.links.proofs.ShortenLaws.{fitted-only, path-long}

@@ -11,6 +11,7 @@ use lib.Ieee.{Float, nan, binary64, fits, add, lt}
 use borrow.Rule.Slice.PartMut.{putMid}
 use Rattle.loops.specs.Regions.{Fits, within}
 use Rattle.loops.proofs.RegionLaws.{region-long, put-long}
+use Rattle.loops.proofs.FrameLaws.{back-there, back-first}
 use Rattle.geom.specs.Vec.{distanceOf}
 use Rattle.geom.specs.declared.vec2.Vec2.{Vec2}
 use Rattle.links.specs.declared.NodeNo.{NodeNo}
@@ -21,7 +22,6 @@ use Rattle.links.specs.Lattice.{nodes, centreOf, IsNode, Laid}
 use Rattle.links.specs.Search.{Search, st, entry, opened, reopened, improved, candidate, offerOf, searchIn, Ready, Grown}
 use Rattle.links.proofs.HoldLaws.{push-list, pop-list}
 use Rattle.links.proofs.LatticeLaws.{nodes-most}
-use Rattle.loops.proofs.FrameLaws.{back-there, back-first}
 
 -- ---- floats of a part
 

@@ -16,6 +16,8 @@ use Rattle.loops.proofs.Cases.{by-test}
 use Rattle.loops.proofs.LoopLaws.{loop-keeps, Going, going-none, going-on, going-out, going-end}
 use Rattle.loops.specs.Regions.{Fits, within}
 use Rattle.loops.proofs.RegionLaws.{region-long}
+use Rattle.loops.specs.Frame.{Only}
+use Rattle.loops.proofs.FrameLaws.{back-there, back-only, only-more}
 use Rattle.geom.specs.Vec.{f0, distanceOf}
 use Rattle.geom.specs.declared.vec2.Vec2.{Vec2}
 use Rattle.links.specs.declared.NodeNo.{NodeNo}
@@ -28,9 +30,7 @@ use Rattle.links.specs.declared.search.Turn.the-variants.{On, Out}
 use Rattle.links.specs.Heap.{insert, one, count, listed}
 use Rattle.links.specs.Lattice.{nodes, centreOf, besideOf, IsNode, Laid}
 use Rattle.links.specs.Search.{Search, st, top, noNode, entry, started, opened, reopened, improved, candidate, offerOf, reachable, visitAt, visitOf, expandOf, Outcome, outcome, seekNext, seekStep, ended, seekOf, searchIn, Ready, Grown, cells, squaresIn, wordsIn, Searching, Visited, Befores, Sound, outcomeIn, turnIn, Room, Turned}
-use Rattle.loops.specs.Frame.{Only}
 use Rattle.links.specs.declared.search.Sought.{Sought}
-use Rattle.loops.proofs.FrameLaws.{back-there, back-only, only-more}
 use Rattle.links.proofs.LatticeLaws.{nodes-few, nodes-most, nodes-pos, beside-node}
 use Rattle.links.proofs.OpenLaws.{one-fails, count-insert, first-fails}
 use Rattle.links.proofs.VisitLaws.{squares-same, words-part, visited-none, visited-more, words-back, visited-back}

@@ -10,6 +10,8 @@ use borrow.Author.Tests.{lt-ltb, le-ltb}
 use borrow.Rule.Slice.PartMut.{putMid}
 use Rattle.loops.specs.Regions.{Fits, within}
 use Rattle.loops.proofs.RegionLaws.{region-long}
+use Rattle.loops.specs.Frame.{Only}
+use Rattle.loops.proofs.FrameLaws.{back-there, back-only, only-same, only-more, only-before, only-after}
 use Rattle.geom.specs.Region.{vertexOf}
 use Rattle.geom.specs.Points.{putPoint, points}
 use Rattle.geom.specs.declared.vec2.Vec2.{Vec2}
@@ -20,10 +22,8 @@ use Rattle.setup.specs.declared.Setup.{Setup}
 use Rattle.links.specs.declared.path.Seen.{Seen}
 use Rattle.links.specs.declared.path.Seen.the-variants.{Nothing, Point}
 use Rattle.links.specs.declared.path.Kept.the-variants.{Lost, Points}
-use Rattle.loops.specs.Frame.{Only}
 use Rattle.links.specs.Straight.{linkClear}
 use Rattle.links.specs.Path.{farthestOf, lost, way, onward, shortenFrom, pointIn, shortenOf, pathIn, clearIn, Fitted, keptIn}
-use Rattle.loops.proofs.FrameLaws.{back-there, back-only, only-same, only-more, only-before, only-after}
 
 -- ---- the farthest in view
 

@@ -11,15 +11,15 @@ use borrow.Rule.Slice.PartMut.{putMid}
 use Rattle.loops.specs.Regions.{Fits, within}
 use Rattle.loops.proofs.LoopLaws.{Going, going-more}
 use Rattle.loops.proofs.RegionLaws.{region-long}
+use Rattle.loops.specs.Frame.{Only}
+use Rattle.loops.proofs.FrameLaws.{back-there, back-only, only-same, only-more, only-before}
 use Rattle.raster.specs.Grid.{Over}
 use Rattle.links.specs.declared.NodeNo.{NodeNo}
 use Rattle.links.specs.declared.lattice.Lattice.{Lattice}
 use Rattle.links.specs.declared.lattice.Neighbour.{Neighbour}
 use Rattle.links.specs.declared.lattice.Neighbour.the-variants.{Off, At}
-use Rattle.loops.specs.Frame.{Only}
 use Rattle.links.specs.Lattice.{nodes, nodeFree, besideOf, Laid}
 use Rattle.links.specs.Search.{Search, offerOf, reachable, visitAt, visitOf, searchIn, Ready, Grown, cells, squaresIn, wordsIn, Searching, Visited}
-use Rattle.loops.proofs.FrameLaws.{back-there, back-only, only-same, only-more, only-before}
 
 module _ (l : Lattice) (allowed squares : List ℕ) (t : NodeNo) where
   pub reach-goal : t .0 ≡ l .goal .0 → true ≡ reachable l allowed squares t

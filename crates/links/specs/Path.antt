@@ -11,8 +11,8 @@ use Rattle.geom.specs.Points.{points}
 use Rattle.geom.specs.declared.vec2.Vec2.{Vec2}
 use Rattle.raster.specs.Grid.{Over}
 use Rattle.raster.specs.Contact.{samplesOf, Rim}
-use Rattle.setup.specs.Layout.{pathFrom, rimFrom, crossingsFrom}
-use Rattle.setup.specs.Place.{Walls}
+use Rattle.setup.specs.Layout.{pathFrom, rimFrom, crossingsFrom, pathEnd}
+use Rattle.setup.specs.Place.{Walls, cellsOf}
 use Rattle.setup.specs.declared.Setup.{Setup}
 use Rattle.links.specs.declared.NodeNo.{NodeNo}
 use Rattle.links.specs.declared.lattice.Lattice.{Lattice}
@@ -77,13 +77,13 @@ shortenOf clear ps from = shortenFrom clear (pointIn ps from) (length ps) (lengt
 -- ---- the f64 of the workspace: wall distances, the path's points, the rim's directions
 
 abbrev pub wallIn : Setup → List Float → List Float
-wallIn s w = within 0 (s .grid .ny * s .grid .nx) w
+wallIn s w = within 0 (cellsOf s) w
 
 abbrev pub pathIn : Setup → List Float → List Float
-pathIn s w = within (pathFrom (s .grid .ny * s .grid .nx)) (23 * (s .grid .ny * s .grid .nx)) w
+pathIn s w = within (pathFrom (cellsOf s)) (pathEnd (cellsOf s)) w
 
 abbrev pub rimIn : Setup → List Float → List Float
-rimIn s w = within (rimFrom (s .grid .ny * s .grid .nx)) (crossingsFrom (s .grid .ny * s .grid .nx)) w
+rimIn s w = within (rimFrom (cellsOf s)) (crossingsFrom (cellsOf s)) w
 
 -- whether a straight feed is clear, by what the workspace holds
 abbrev pub clearIn : Setup → List Float → List ℕ → List ℕ → List Float → Vec2 → Vec2 → Bool
@@ -94,7 +94,7 @@ pub record Fitted (s : Setup) (vs : List Float) (lens m : List ℕ) (w : List Fl
   pub walls : Walls s (wallIn s w) vs lens
   pub over : Over (s .grid) (length m)
   pub rim : Rim (samplesOf (s .samples)) (rimIn s w)
-  pub long : 32 * (s .grid .ny * s .grid .nx) + 4096 ≤ length w
+  pub long : 32 * cellsOf s + 4096 ≤ length w
 
 -- the way that was kept, in the path's part
 abbrev pub keptIn : Setup → Kept → List Float → Way

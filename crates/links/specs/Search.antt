@@ -8,6 +8,7 @@ use lib.ListN.{length, getD, set, take, replicate}
 use lib.Ieee.{Float, nan, binary64, ofBits, add, lt}
 use Rattle.loops.specs.Loop.{loop, Run, on, out, turn}
 use Rattle.loops.specs.Regions.{within}
+use Rattle.loops.specs.Frame.{Only}
 use Rattle.geom.specs.Vec.{f0, distanceOf}
 use Rattle.setup.specs.Layout.{beforeFrom, segmentsFrom}
 use Rattle.links.specs.declared.NodeNo.{NodeNo}
@@ -19,7 +20,6 @@ use Rattle.links.specs.declared.search.Sought.{Sought}
 use Rattle.links.specs.declared.search.Turn.{Turn}
 use Rattle.links.specs.declared.search.Turn.the-variants.{On, Out}
 use Rattle.links.specs.Heap.{insert, count, entryAt, listed, Ordered}
-use Rattle.loops.specs.Frame.{Only}
 use Rattle.links.specs.Lattice.{nodes, centreOf, nodeFree, besideOf}
 
 -- the open entries are in order, the next to be taken first

@@ -2,9 +2,11 @@
 ghost use mathlib.Core.Path.{_≡_};
 ghost use Prim.Native.Nat.{_*_, _≤_};
 ghost use lib.ListN.{length};
+ghost use Rattle.loops.specs.Frame.{Only};
 ghost use Rattle.distance.specs.Nearest.{squaresOf};
 ghost use Rattle.raster.specs.Grid.{Over};
-ghost use Rattle.loops.specs.Frame.{Only};
+ghost use Rattle.setup.specs.Layout.{costFrom, pathEnd, pathFrom};
+ghost use Rattle.setup.specs.Place.{cellsOf};
 ghost use Rattle.links.specs.Lattice.{nodes, Laid};
 ghost use Rattle.links.specs.Search.{seekOf, cells, Befores, outcomeIn};
 ghost use Rattle.links.specs.Path.{nodesOf, shortenOf, wallIn, clearIn, Fitted, keptIn};
@@ -61,7 +63,7 @@ fn trace(
     requires { ⌜ 15 * cells l ≤ length (now u) ⌝ }
     requires { ⌜ Befores (nodes l) (beforeIn l (now u)) ⌝ }
     ensures { λ r. ⌜ keptIn s r (now (w .exit)) ≡ shortenOf (clearIn s (now (vs .entry)) (now (lens .entry)) (now (map .entry)) (now (w .entry))) (nodesOf l (beforeIn l (now (u .entry))) to) from ⌝ }
-    ensures { λ _. ⌜ Only (20 * (s .grid .ny * s .grid .nx)) (23 * (s .grid .ny * s .grid .nx)) (now (w .entry)) (now (w .exit)) ⌝ }
+    ensures { λ _. ⌜ Only (pathFrom (cellsOf s)) (pathEnd (cellsOf s)) (now (w .entry)) (now (w .exit)) ⌝ }
 {
     let n = nodes_of(l);
     let first = 5 * (l.grid.ny * l.grid.nx);
@@ -89,10 +91,10 @@ fn around(
     requires { ⌜ Laid l ⌝ }
     requires { ⌜ l .grid ≡ s .grid ⌝ }
     requires { ⌜ Over (s .grid) (length (now allowed)) ⌝ }
-    requires { ⌜ 15 * (s .grid .ny * s .grid .nx) ≤ length (now u) ⌝ }
+    requires { ⌜ 15 * cellsOf s ≤ length (now u) ⌝ }
     ensures { λ r. ⌜ linkedIn s r (now (w .exit)) ≡ aroundOf s (wallIn s (now (w .entry))) (now (vs .entry)) (now (lens .entry)) (now (map .entry)) (now (allowed .entry)) from to l ⌝ }
-    ensures { λ _. ⌜ Only 0 (15 * (s .grid .ny * s .grid .nx)) (now (u .entry)) (now (u .exit)) ⌝ }
-    ensures { λ _. ⌜ Only (10 * (s .grid .ny * s .grid .nx)) (23 * (s .grid .ny * s .grid .nx)) (now (w .entry)) (now (w .exit)) ⌝ }
+    ensures { λ _. ⌜ Only 0 (15 * cellsOf s) (now (u .entry)) (now (u .exit)) ⌝ }
+    ensures { λ _. ⌜ Only (costFrom (cellsOf s)) (pathEnd (cellsOf s)) (now (w .entry)) (now (w .exit)) ⌝ }
 {
     let a = 10 * (s.grid.ny * s.grid.nx);
     let e = 20 * (s.grid.ny * s.grid.nx);
@@ -146,10 +148,10 @@ pub fn link_path(
 ) -> Route
     requires { ⌜ Fitted s (now vs) (now lens) (now map) (now w) ⌝ }
     requires { ⌜ Over (s .grid) (length (now allowed)) ⌝ }
-    requires { ⌜ 15 * (s .grid .ny * s .grid .nx) ≤ length (now u) ⌝ }
+    requires { ⌜ 15 * cellsOf s ≤ length (now u) ⌝ }
     ensures { λ r. ⌜ linkedIn s r (now (w .exit)) ≡ linkPath s (wallIn s (now (w .entry))) (now (vs .entry)) (now (lens .entry)) (now (map .entry)) (now (allowed .entry)) from to ⌝ }
-    ensures { λ _. ⌜ Only 0 (15 * (s .grid .ny * s .grid .nx)) (now (u .entry)) (now (u .exit)) ⌝ }
-    ensures { λ _. ⌜ Only (10 * (s .grid .ny * s .grid .nx)) (23 * (s .grid .ny * s .grid .nx)) (now (w .entry)) (now (w .exit)) ⌝ }
+    ensures { λ _. ⌜ Only 0 (15 * cellsOf s) (now (u .entry)) (now (u .exit)) ⌝ }
+    ensures { λ _. ⌜ Only (costFrom (cellsOf s)) (pathEnd (cellsOf s)) (now (w .entry)) (now (w .exit)) ⌝ }
 {
     if super::path::clear(s, vs, lens, map, w, from, to) {
         super::path::keep(s, w, 0, to);

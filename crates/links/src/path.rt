@@ -3,10 +3,12 @@
 ghost use mathlib.Core.Path.{_≡_};
 ghost use Prim.Native.Nat.{_+_, _-_, _*_, _≤_, _<_};
 ghost use lib.ListN.{length};
+ghost use Rattle.loops.specs.Frame.{Only};
 ghost use Rattle.geom.specs.Region.{vertexOf};
 ghost use Rattle.geom.specs.Points.{putPoint, points};
 ghost use Rattle.raster.specs.Grid.{Sides};
-ghost use Rattle.loops.specs.Frame.{Only};
+ghost use Rattle.setup.specs.Layout.{pathEnd, pathFrom};
+ghost use Rattle.setup.specs.Place.{cellsOf};
 ghost use Rattle.links.specs.Lattice.{nodes, Laid};
 ghost use Rattle.links.specs.Search.{Befores};
 ghost use Rattle.links.specs.Path.{nodesOf, farthestOf, shortenOf, pathIn, clearIn, Fitted, keptIn};
@@ -76,8 +78,8 @@ pub fn clear(s: Setup, vs: &[f64], lens: &[u32], map: &[u8], w: &[f64], a: Vec2,
 // Point k of the path.
 fn point(s: Setup, w: &[f64], k: usize) -> Vec2
     requires { ⌜ Sides (s .grid) ⌝ }
-    requires { ⌜ 32 * (s .grid .ny * s .grid .nx) ≤ length (now w) ⌝ }
-    requires { ⌜ 2 * k + 1 < 3 * (s .grid .ny * s .grid .nx) ⌝ }
+    requires { ⌜ 32 * cellsOf s ≤ length (now w) ⌝ }
+    requires { ⌜ 2 * k + 1 < 3 * cellsOf s ⌝ }
     ensures { λ p. ⌜ p ≡ vertexOf (pathIn s (now (w .entry))) k ⌝ }
 {
     let n = s.grid.ny * s.grid.nx;
@@ -99,7 +101,7 @@ fn farthest(
 ) -> Seen
     requires { ⌜ Fitted s (now vs) (now lens) (now map) (now w) ⌝ }
     requires { ⌜ first ≤ end ⌝ }
-    requires { ⌜ 2 * end ≤ 3 * (s .grid .ny * s .grid .nx) ⌝ }
+    requires { ⌜ 2 * end ≤ 3 * cellsOf s ⌝ }
     ensures { λ r. ⌜ r ≡ farthestOf (clearIn s (now (vs .entry)) (now (lens .entry)) (now (map .entry)) (now (w .entry))) (vertexOf (pathIn s (now (w .entry)))) here first (end - first) ⌝ }
 {
     let mut k = end;
@@ -116,10 +118,10 @@ fn farthest(
 // Keeps point p as point k of the path.
 pub fn keep(s: Setup, w: &mut [f64], k: usize, p: Vec2)
     requires { ⌜ Sides (s .grid) ⌝ }
-    requires { ⌜ 32 * (s .grid .ny * s .grid .nx) ≤ length (now w) ⌝ }
-    requires { ⌜ 2 * k + 1 < 3 * (s .grid .ny * s .grid .nx) ⌝ }
+    requires { ⌜ 32 * cellsOf s ≤ length (now w) ⌝ }
+    requires { ⌜ 2 * k + 1 < 3 * cellsOf s ⌝ }
     ensures { λ _. ⌜ pathIn s (now (w .exit)) ≡ putPoint k p (pathIn s (now (w .entry))) ⌝ }
-    ensures { λ _. ⌜ Only (20 * (s .grid .ny * s .grid .nx)) (23 * (s .grid .ny * s .grid .nx)) (now (w .entry)) (now (w .exit)) ⌝ }
+    ensures { λ _. ⌜ Only (pathFrom (cellsOf s)) (pathEnd (cellsOf s)) (now (w .entry)) (now (w .exit)) ⌝ }
 {
     let n = s.grid.ny * s.grid.nx;
     let from = 20 * n;
@@ -141,9 +143,9 @@ pub fn shorten(
 ) -> Kept
     requires { ⌜ Fitted s (now vs) (now lens) (now map) (now w) ⌝ }
     requires { ⌜ at ≤ end ⌝ }
-    requires { ⌜ 2 * end ≤ 3 * (s .grid .ny * s .grid .nx) ⌝ }
+    requires { ⌜ 2 * end ≤ 3 * cellsOf s ⌝ }
     ensures { λ r. ⌜ keptIn s r (now (w .exit)) ≡ shortenOf (clearIn s (now (vs .entry)) (now (lens .entry)) (now (map .entry)) (now (w .entry))) (points at (end - at) (pathIn s (now (w .entry)))) from ⌝ }
-    ensures { λ _. ⌜ Only (20 * (s .grid .ny * s .grid .nx)) (23 * (s .grid .ny * s .grid .nx)) (now (w .entry)) (now (w .exit)) ⌝ }
+    ensures { λ _. ⌜ Only (pathFrom (cellsOf s)) (pathEnd (cellsOf s)) (now (w .entry)) (now (w .exit)) ⌝ }
 {
     let mut here = from;
     let mut first = at;

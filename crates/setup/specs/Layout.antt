@@ -99,6 +99,10 @@ estimatesFrom n = 11 * n
 abbrev pub pathFrom : ℕ → ℕ
 pathFrom n = 20 * n
 
+-- behind them
+abbrev pub pathEnd : ℕ → ℕ
+pathEnd n = 23 * n
+
 -- directions of the rim's samples, at most 2,048
 abbrev pub rimFrom : ℕ → ℕ
 rimFrom n = 32 * n
@@ -169,6 +173,19 @@ run k n w = within (k * n) (k * n + n) w
 
 abbrev pub putRun : {A : Type 0} → ℕ → ℕ → List A → List A → List A
 putRun k n r w = put (k * n) (k * n + n) r w
+
+-- the regions that hold something for each cell, by name
+abbrev pub mapIn : ℕ → List ℕ → List ℕ
+mapIn n b = run 0 n b
+
+abbrev pub allowedIn : ℕ → List ℕ → List ℕ
+allowedIn n b = run 1 n b
+
+abbrev pub dirtyIn : ℕ → List ℕ → List ℕ
+dirtyIn n b = run 4 n b
+
+abbrev pub logIn : ℕ → List ℕ → List ℕ
+logIn n u = run 24 n u
 
 -- the lent slices are long enough for n cells
 pub record Lent (n b u f w : ℕ) : Type 0 where

@@ -20,6 +20,10 @@ use Rattle.raster.specs.declared.grid.Found.{Found}
 use Rattle.raster.specs.declared.grid.Found.the-variants.{Nothing, At}
 use Rattle.setup.specs.declared.Setup.{Setup}
 
+-- a raster's cells
+abbrev pub cellsOf : Setup → ℕ
+cellsOf s = s .grid .ny * s .grid .nx
+
 -- wall_dist[k] + 2.0 * cell >= keep at the point's cell; off the raster no
 abbrev pub wallIn : Grid → List Float → Float → Found → Bool
 wallIn g wall keep Nothing = false

@@ -1,15 +1,14 @@
 -- `cutting::piece::cut_piece` meets its contract. Assumes nothing.
-use native.Mathlib.Omega.{arith}
 use Rattle.cutting.proofs.PieceLaws.{try-asks, cut-refused, cut-nothing, go-asks, cut-kept}
 use borrow.Author.Needs.{needs}
 use Rattle.cutting.proofs.piece.cut_piece.Statement.{statement}
 use Rattle.cutting.proofs.piece.cut_piece.Tie as tie
 
 mul-n : tie.Need-mul-n
-mul-n c = omega (arith, c .before .before .before .before .before .before .before .before .pre .0 .over .sides .cells)
+mul-n c = search needs
 
-mul-log : tie.Need-mul-log
-mul-log c = omega (arith, c .before .before .before .before .before .before .before .before .pre .0 .over .sides .cells)
+log-requires : tie.Need-log-requires
+log-requires c κs = search needs
 
 sub-try-piece : tie.Need-sub-try-piece
 sub-try-piece c = search needs
@@ -36,7 +35,7 @@ part-try-piece-end-2 : tie.Need-part-try-piece-end-2
 part-try-piece-end-2 c = search needs
 
 try-piece-requires : tie.Need-try-piece-requires
-try-piece-requires c κs = let p = c .before .before .before .before .before .before .before .before .before .before .before .before .pre in try-asks _ _ _ _ _ _ _ _ _ _ _ (c .before .before .before .before .before .before .before .before .before .before .before .before .args .closed) (p .0) (p .1 .0) (p .1 .1 .0) (p .1 .1 .1)
+try-piece-requires c κs = let p = c .before .before .before .before .before .before .before .before .before .before .before .before .before .pre in try-asks _ _ _ _ _ _ _ _ _ _ _ (c .before .before .before .before .before .before .before .before .before .before .before .before .before .args .closed) (p .0) (p .1 .0) (p .1 .1 .0) (p .1 .1 .1) _ (c .before .before .before .before .log .ensures)
 
 same-length : tie.Need-same-length
 same-length c = search needs
@@ -51,13 +50,13 @@ same-length-4 : tie.Need-same-length-4
 same-length-4 c = search needs
 
 returns : tie.Need-returns
-returns c = let p = c .before .before .before .before .before .before .before .before .before .before .before .before .before .before .before .before .before .before .before .before .before .before .pre in cut-refused _ _ _ _ _ _ _ _ _ _ _ _ (p .0) (p .1 .0) (p .1 .1 .0) (p .1 .1 .1) _ _ _ _ _ (c .before .before .before .before .before .before .before .before .before .try-piece .ensures .0) (c .before .before .before .before .before .before .before .before .before .try-piece .ensures .1 .0) (c .before .before .before .before .before .before .before .before .before .try-piece .ensures .1 .1) (c .if1 .taken)
+returns c = let p = c .before .before .before .before .before .before .before .before .before .before .before .before .before .before .before .before .before .before .before .before .before .before .before .pre in cut-refused _ _ _ _ _ _ _ _ _ _ _ _ (p .0) (p .1 .0) (p .1 .1 .0) (p .1 .1 .1) _ (c .before .before .before .before .before .before .before .before .before .before .before .before .before .before .log .ensures) _ _ _ _ _ (c .before .before .before .before .before .before .before .before .before .try-piece .ensures .0) (c .before .before .before .before .before .before .before .before .before .try-piece .ensures .1 .0) (c .before .before .before .before .before .before .before .before .before .try-piece .ensures .1 .1) (c .if1 .taken)
 
 spend-requires : tie.Need-spend-requires
 spend-requires c κs = search needs
 
 go-and-keep-requires : tie.Need-go-and-keep-requires
-go-and-keep-requires c κs = let p = c .before .before .before .before .before .before .before .before .before .before .before .before .before .before .before .before .before .before .before .before .before .before .before .before .before .before .before .before .before .pre in go-asks _ _ _ _ _ _ _ _ _ _ _ _ (p .0) (p .1 .0) (p .1 .1 .0) (p .1 .1 .1) _ _ _ _ _ (c .before .before .before .before .before .before .before .before .before .before .before .before .before .before .before .before .try-piece .ensures .0) (c .before .before .before .before .before .before .before .before .before .before .before .before .before .before .before .before .try-piece .ensures .1 .0) (c .before .before .before .before .before .before .before .before .before .before .before .before .before .before .before .before .try-piece .ensures .1 .1) (c .before .before .before .before .before .before .before .if1 .left) _ (c .before .before .before .before .before .before .spend .ensures) (c .before .before .before .before .before .if2 .taken)
+go-and-keep-requires c κs = let p = c .before .before .before .before .before .before .before .before .before .before .before .before .before .before .before .before .before .before .before .before .before .before .before .before .before .before .before .before .before .before .pre in go-asks _ _ _ _ _ _ _ _ _ _ _ _ (p .0) (p .1 .0) (p .1 .1 .0) (p .1 .1 .1) _ (c .before .before .before .before .before .before .before .before .before .before .before .before .before .before .before .before .before .before .before .before .before .log .ensures) _ _ _ _ _ (c .before .before .before .before .before .before .before .before .before .before .before .before .before .before .before .before .try-piece .ensures .0) (c .before .before .before .before .before .before .before .before .before .before .before .before .before .before .before .before .try-piece .ensures .1 .0) (c .before .before .before .before .before .before .before .before .before .before .before .before .before .before .before .before .try-piece .ensures .1 .1) (c .before .before .before .before .before .before .before .if1 .left) _ (c .before .before .before .before .before .before .spend .ensures) (c .before .before .before .before .before .if2 .taken)
 
 same-length-5 : tie.Need-same-length-5
 same-length-5 c = search needs
@@ -75,7 +74,7 @@ same-length-9 : tie.Need-same-length-9
 same-length-9 c = search needs
 
 returns-2 : tie.Need-returns-2
-returns-2 c = let p = c .before .before .before .before .before .before .before .before .before .before .before .before .before .before .before .before .before .before .before .before .before .before .before .before .before .before .before .before .before .before .before .before .before .before .before .before .before .before .before .before .pre in cut-kept _ _ _ _ _ _ _ _ _ _ _ _ (p .0) (p .1 .0) (p .1 .1 .0) (p .1 .1 .1) _ _ _ _ _ (c .before .before .before .before .before .before .before .before .before .before .before .before .before .before .before .before .before .before .before .before .before .before .before .before .before .before .before .try-piece .ensures .0) (c .before .before .before .before .before .before .before .before .before .before .before .before .before .before .before .before .before .before .before .before .before .before .before .before .before .before .before .try-piece .ensures .1 .0) (c .before .before .before .before .before .before .before .before .before .before .before .before .before .before .before .before .before .before .before .before .before .before .before .before .before .before .before .try-piece .ensures .1 .1) (c .before .before .before .before .before .before .before .before .before .before .before .before .before .before .before .before .before .before .if1 .left) _ (c .before .before .before .before .before .before .before .before .before .before .before .before .before .before .before .before .before .spend .ensures) (c .before .before .before .before .before .before .before .before .before .before .before .before .before .before .before .before .if2 .taken) _ _ _ _ _ _ (c .before .before .before .before .before .before .before .before .before .before .go-and-keep .ensures .0) (c .before .before .before .before .before .before .before .before .before .before .go-and-keep .ensures .1 .0) (c .before .before .before .before .before .before .before .before .before .before .go-and-keep .ensures .1 .1 .0) (c .before .before .before .before .before .before .before .before .before .before .go-and-keep .ensures .1 .1 .1)
+returns-2 c = let p = c .before .before .before .before .before .before .before .before .before .before .before .before .before .before .before .before .before .before .before .before .before .before .before .before .before .before .before .before .before .before .before .before .before .before .before .before .before .before .before .before .before .pre in cut-kept _ _ _ _ _ _ _ _ _ _ _ _ (p .0) (p .1 .0) (p .1 .1 .0) (p .1 .1 .1) _ (c .before .before .before .before .before .before .before .before .before .before .before .before .before .before .before .before .before .before .before .before .before .before .before .before .before .before .before .before .before .before .before .before .log .ensures) _ _ _ _ _ (c .before .before .before .before .before .before .before .before .before .before .before .before .before .before .before .before .before .before .before .before .before .before .before .before .before .before .before .try-piece .ensures .0) (c .before .before .before .before .before .before .before .before .before .before .before .before .before .before .before .before .before .before .before .before .before .before .before .before .before .before .before .try-piece .ensures .1 .0) (c .before .before .before .before .before .before .before .before .before .before .before .before .before .before .before .before .before .before .before .before .before .before .before .before .before .before .before .try-piece .ensures .1 .1) (c .before .before .before .before .before .before .before .before .before .before .before .before .before .before .before .before .before .before .if1 .left) _ (c .before .before .before .before .before .before .before .before .before .before .before .before .before .before .before .before .before .spend .ensures) (c .before .before .before .before .before .before .before .before .before .before .before .before .before .before .before .before .if2 .taken) _ _ _ _ _ _ (c .before .before .before .before .before .before .before .before .before .before .go-and-keep .ensures .0) (c .before .before .before .before .before .before .before .before .before .before .go-and-keep .ensures .1 .0) (c .before .before .before .before .before .before .before .before .before .before .go-and-keep .ensures .1 .1 .0) (c .before .before .before .before .before .before .before .before .before .before .go-and-keep .ensures .1 .1 .1)
 
 same-length-10 : tie.Need-same-length-10
 same-length-10 c = search needs
@@ -90,14 +89,14 @@ same-length-13 : tie.Need-same-length-13
 same-length-13 c = search needs
 
 returns-3 : tie.Need-returns-3
-returns-3 c = let p = c .before .before .before .before .before .before .before .before .before .before .before .before .before .before .before .before .before .before .before .before .before .before .before .before .pre in cut-nothing _ _ _ _ _ _ _ _ _ _ _ _ (p .0) (p .1 .0) (p .1 .1 .0) (p .1 .1 .1) _ _ _ _ _ (c .before .before .before .before .before .before .before .before .before .before .before .try-piece .ensures .0) (c .before .before .before .before .before .before .before .before .before .before .before .try-piece .ensures .1 .0) (c .before .before .before .before .before .before .before .before .before .before .before .try-piece .ensures .1 .1) (c .before .before .if1 .left) _ (c .before .spend .ensures) (c .if2 .left)
+returns-3 c = let p = c .before .before .before .before .before .before .before .before .before .before .before .before .before .before .before .before .before .before .before .before .before .before .before .before .before .pre in cut-nothing _ _ _ _ _ _ _ _ _ _ _ _ (p .0) (p .1 .0) (p .1 .1 .0) (p .1 .1 .1) _ (c .before .before .before .before .before .before .before .before .before .before .before .before .before .before .before .before .log .ensures) _ _ _ _ _ (c .before .before .before .before .before .before .before .before .before .before .before .try-piece .ensures .0) (c .before .before .before .before .before .before .before .before .before .before .before .try-piece .ensures .1 .0) (c .before .before .before .before .before .before .before .before .before .before .before .try-piece .ensures .1 .1) (c .before .before .if1 .left) _ (c .before .spend .ensures) (c .if2 .left)
 
 pub cut-piece-spec : {M : Type 1} → statement M
 cut-piece-spec =
     tie.close
     (tie.spec
     mul-n
-    mul-log
+    log-requires
     sub-try-piece
     part-try-piece-start
     part-try-piece-end

@@ -1,6 +1,5 @@
 -- `cutting::piece::go_and_keep` meets its contract. Assumes nothing.
 use native.Mathlib.Omega.{arith}
-use Rattle.loops.specs.Regions.{within}
 use Rattle.cutting.proofs.GoLaws.{way-asks, keep-asks, went-is}
 use borrow.Author.Needs.{needs}
 use Rattle.cutting.proofs.piece.go_and_keep.Statement.{statement}
@@ -12,6 +11,9 @@ mul-size c = search needs
 spot-requires : tie.Need-spot-requires
 spot-requires c κs = search needs
 
+allowed-requires : tie.Need-allowed-requires
+allowed-requires c κs = search needs
+
 sub-way-to : tie.Need-sub-way-to
 sub-way-to c = search needs
 
@@ -21,8 +23,8 @@ part-way-to-start c = search needs
 part-way-to-end : tie.Need-part-way-to-end
 part-way-to-end c = search needs
 
-mul-way-to : tie.Need-mul-way-to
-mul-way-to c = search needs
+add-way-to : tie.Need-add-way-to
+add-way-to c = search needs
 
 sub-way-to-2 : tie.Need-sub-way-to-2
 sub-way-to-2 c = search needs
@@ -34,25 +36,25 @@ part-way-to-end-2 : tie.Need-part-way-to-end-2
 part-way-to-end-2 c = search needs
 
 way-to-requires : tie.Need-way-to-requires
-way-to-requires c κs = let s = c .before .before .before .before .before .before .before .before .before .before .before .before .before .before .before in way-asks _ _ _ (s .args .b .now) (s .args .u .now) _ (s .pre .0) (s .pre .1 .0)
+way-to-requires c κs = let s = c .before .before .before .before .before .before .before .before .before .before .before .before .before .before .before .before in way-asks _ _ _ (s .args .b .now) (s .args .u .now) _ (s .pre .0) (s .pre .1 .0) _ (c .before .before .before .before .before .allowed .ensures)
 
 points-of-requires : tie.Need-points-of-requires
 points-of-requires c κs = search needs
 
-mul-log : tie.Need-mul-log
-mul-log c = let s = c .before .before .before .before .before .before .before .before .before .before .before .before .before .before .before .before .before .before .before .before .before in omega (arith, s .pre .0 .over .sides .cells)
+log-requires : tie.Need-log-requires
+log-requires c κs = let s = c .before .before .before .before .before .before .before .before .before .before .before .before .before .before .before .before .before .before .before .before .before .before in omega (arith, s .pre .0 .over .sides .cells)
 
-mul-path : tie.Need-mul-path
-mul-path c = let s = c .before .before .before .before .before .before .before .before .before .before .before .before .before .before .before .before .before .before .before .before .before in omega (arith, s .pre .0 .over .sides .cells)
+path-requires : tie.Need-path-requires
+path-requires c κs = let s = c .before .before .before .before .before .before .before .before .before .before .before .before .before .before .before .before .before .before .before .before .before .before .before in omega (arith, s .pre .0 .over .sides .cells)
 
 spend-requires : tie.Need-spend-requires
 spend-requires c κs = search needs
 
 add-keep-pass : tie.Need-add-keep-pass
-add-keep-pass c = let s = c .before .before .before .before .before .before .before .before .before .before .before .before .before .before .before .before .before .before .before .before .before .before .before in omega (arith, s .pre .0 .over .sides .cells)
+add-keep-pass c = let s = c .before .before .before .before .before .before .before .before .before .before .before .before .before .before .before .before .before .before .before .before .before .before .before .before .before .before in omega (arith, s .pre .0 .over .sides .cells, c .before .before .before .log .ensures)
 
 mul-keep-pass : tie.Need-mul-keep-pass
-mul-keep-pass c = let s = c .before .before .before .before .before .before .before .before .before .before .before .before .before .before .before .before .before .before .before .before .before .before .before in omega (arith, s .pre .0 .over .sides .cells)
+mul-keep-pass c = let s = c .before .before .before .before .before .before .before .before .before .before .before .before .before .before .before .before .before .before .before .before .before .before .before .before .before .before in omega (arith, s .pre .0 .over .sides .cells)
 
 sub-keep-pass : tie.Need-sub-keep-pass
 sub-keep-pass c = search needs
@@ -61,13 +63,16 @@ part-keep-pass-start : tie.Need-part-keep-pass-start
 part-keep-pass-start c = search needs
 
 part-keep-pass-end : tie.Need-part-keep-pass-end
-part-keep-pass-end c = let s = c .before .before .before .before .before .before .before .before .before .before .before .before .before .before .before .before .before .before .before .before .before .before .before .before in omega (arith, s .pre .1 .0 .words, c .before .before .before .before .before .before .before .before .way-to .ensures .1 .0 .long)
+part-keep-pass-end c = let s = c .before .before .before .before .before .before .before .before .before .before .before .before .before .before .before .before .before .before .before .before .before .before .before .before .before .before .before in omega (arith, s .pre .1 .0 .words, c .before .before .before .before .before .before .before .before .before .before .way-to .ensures .1 .0 .long, c .before .before .before .before .log .ensures)
 
 mul-keep-pass-2 : tie.Need-mul-keep-pass-2
-mul-keep-pass-2 c = let s = c .before .before .before .before .before .before .before .before .before .before .before .before .before .before .before .before .before .before .before .before .before .before .before .before .before in omega (arith, s .pre .0 .over .sides .cells)
+mul-keep-pass-2 c = search needs
+
+add-keep-pass-2 : tie.Need-add-keep-pass-2
+add-keep-pass-2 c = search needs
 
 mul-keep-pass-3 : tie.Need-mul-keep-pass-3
-mul-keep-pass-3 c = let s = c .before .before .before .before .before .before .before .before .before .before .before .before .before .before .before .before .before .before .before .before .before .before .before .before .before in omega (arith, s .pre .0 .over .sides .cells)
+mul-keep-pass-3 c = let s = c .before .before .before .before .before .before .before .before .before .before .before .before .before .before .before .before .before .before .before .before .before .before .before .before .before .before .before .before in omega (arith, s .pre .0 .over .sides .cells)
 
 sub-keep-pass-2 : tie.Need-sub-keep-pass-2
 sub-keep-pass-2 c = search needs
@@ -76,11 +81,10 @@ part-keep-pass-start-2 : tie.Need-part-keep-pass-start-2
 part-keep-pass-start-2 c = search needs
 
 part-keep-pass-end-2 : tie.Need-part-keep-pass-end-2
-part-keep-pass-end-2 c = let s = c .before .before .before .before .before .before .before .before .before .before .before .before .before .before .before .before .before .before .before .before .before .before .before .before .before .before in omega (arith, s .pre .0 .long, c .before .before .before .before .before .before .before .before .before .before .way-to .ensures .1 .1 .long)
+part-keep-pass-end-2 c = let s = c .before .before .before .before .before .before .before .before .before .before .before .before .before .before .before .before .before .before .before .before .before .before .before .before .before .before .before .before .before in omega (arith, s .pre .0 .long, c .before .before .before .before .before .before .before .before .before .before .before .before .way-to .ensures .1 .1 .long, c .before .before .before .before .before .path .ensures)
 
 keep-pass-requires : tie.Need-keep-pass-requires
-unfolding within
-keep-pass-requires c κs = let s = c .before .before .before .before .before .before .before .before .before .before .before .before .before .before .before .before .before .before .before .before .before .before .before .before .before .before .before .before .before in let x = c .before .before .before .before .before .before .before .before .before .before .before .before .before .way-to in let e = x .ensures in keep-asks _ _ _ (s .args .b .now) (s .args .u .now) _ (s .pre .0) (s .pre .1 .0) (s .args .t) (s .args .triples .now) _ (c .before .before .before .before .before .before .before .before .before .before .before .before .before .before .before .before .before .before .before .spot .ensures) (x .result) _ _ (e .0) (e .1 .0) (e .1 .1) _ (c .before .before .before .before .before .before .before .before .points-of .ensures) _ (c .before .before .before .before .before .before .before .spend .ensures) _ _ _ (s .pre .1 .1 .0) (s .pre .1 .1 .1 .0) (s .pre .1 .1 .1 .1)
+keep-pass-requires c κs = let s = c .before .before .before .before .before .before .before .before .before .before .before .before .before .before .before .before .before .before .before .before .before .before .before .before .before .before .before .before .before .before .before .before in let x = c .before .before .before .before .before .before .before .before .before .before .before .before .before .before .before .way-to in let e = x .ensures in keep-asks _ _ _ (s .args .b .now) (s .args .u .now) _ (s .pre .0) (s .pre .1 .0) _ (c .before .before .before .before .before .before .before .before .before .before .before .before .before .before .before .before .before .before .before .before .before .allowed .ensures) (s .args .t) (s .args .triples .now) _ (c .before .before .before .before .before .before .before .before .before .before .before .before .before .before .before .before .before .before .before .before .before .before .spot .ensures) (x .result) _ _ (e .0) (e .1 .0) (e .1 .1) _ (c .before .before .before .before .before .before .before .before .before .before .points-of .ensures) _ (c .before .before .before .before .before .before .before .spend .ensures) _ _ (c .before .before .before .before .before .before .before .before .before .log .ensures) (c .before .before .before .before .before .before .before .before .path .ensures) _ _ _ (s .pre .1 .1 .0) (s .pre .1 .1 .1 .0) (s .pre .1 .1 .1 .1)
 
 same-length : tie.Need-same-length
 same-length c = search needs
@@ -98,8 +102,7 @@ same-length-5 : tie.Need-same-length-5
 same-length-5 c = search needs
 
 returns : tie.Need-returns
-unfolding within
-returns c = let s = c .before .before .before .before .before .before .before .before .before .before .before .before .before .before .before .before .before .before .before .before .before .before .before .before .before .before .before .before .before .before .before .before .before .before .before .before in let x = c .before .before .before .before .before .before .before .before .before .before .before .before .before .before .before .before .before .before .before .before .way-to in let e = x .ensures in let k = c .before .before .before .before .before .before .keep-pass .ensures in (went-is _ _ _ (s .args .b .now) (s .args .u .now) _ (s .pre .0) (s .pre .1 .0) (s .args .t) (s .args .triples .now) _ (c .before .before .before .before .before .before .before .before .before .before .before .before .before .before .before .before .before .before .before .before .before .before .before .before .before .before .spot .ensures) (x .result) _ _ (e .0) (e .1 .0) (e .1 .1) _ (c .before .before .before .before .before .before .before .before .before .before .before .before .before .before .before .points-of .ensures) _ (c .before .before .before .before .before .before .before .before .before .before .before .before .before .before .spend .ensures) _ _ _ _ _ _ _ (k .0), (k .1, (e .1 .0, e .1 .1)))
+returns c = let s = c .before .before .before .before .before .before .before .before .before .before .before .before .before .before .before .before .before .before .before .before .before .before .before .before .before .before .before .before .before .before .before .before .before .before .before .before .before .before .before in let x = c .before .before .before .before .before .before .before .before .before .before .before .before .before .before .before .before .before .before .before .before .before .before .way-to in let e = x .ensures in let k = c .before .before .before .before .before .before .keep-pass .ensures in (went-is _ _ _ (s .args .b .now) (s .args .u .now) _ (s .pre .0) (s .pre .1 .0) _ (c .before .before .before .before .before .before .before .before .before .before .before .before .before .before .before .before .before .before .before .before .before .before .before .before .before .before .before .before .allowed .ensures) (s .args .t) (s .args .triples .now) _ (c .before .before .before .before .before .before .before .before .before .before .before .before .before .before .before .before .before .before .before .before .before .before .before .before .before .before .before .before .before .spot .ensures) (x .result) _ _ (e .0) (e .1 .0) (e .1 .1) _ (c .before .before .before .before .before .before .before .before .before .before .before .before .before .before .before .before .before .points-of .ensures) _ (c .before .before .before .before .before .before .before .before .before .before .before .before .before .before .spend .ensures) _ _ (c .before .before .before .before .before .before .before .before .before .before .before .before .before .before .before .before .log .ensures) (c .before .before .before .before .before .before .before .before .before .before .before .before .before .before .before .path .ensures) _ _ _ _ _ _ _ (k .0), (k .1, (e .1 .0, e .1 .1)))
 
 pub go-and-keep-spec : {M : Type 1} → statement M
 go-and-keep-spec =
@@ -107,17 +110,18 @@ go-and-keep-spec =
     (tie.spec
     mul-size
     spot-requires
+    allowed-requires
     sub-way-to
     part-way-to-start
     part-way-to-end
-    mul-way-to
+    add-way-to
     sub-way-to-2
     part-way-to-start-2
     part-way-to-end-2
     way-to-requires
     points-of-requires
-    mul-log
-    mul-path
+    log-requires
+    path-requires
     spend-requires
     add-keep-pass
     mul-keep-pass
@@ -125,6 +129,7 @@ go-and-keep-spec =
     part-keep-pass-start
     part-keep-pass-end
     mul-keep-pass-2
+    add-keep-pass-2
     mul-keep-pass-3
     sub-keep-pass-2
     part-keep-pass-start-2
