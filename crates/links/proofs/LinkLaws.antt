@@ -44,39 +44,39 @@ use Rattle.links.specs.Link.{Linked, linked, aroundOf, betweenOf, linkPa
 use Rattle.links.proofs.LatticeLaws.{nodes-few, nodes-most}
 use Rattle.links.proofs.SeekLaws.{sound-seek}
 use Rattle.links.proofs.LayLaws.{points-front}
-use Rattle.links.proofs.ShortenLaws.{fitted-only, path-long}
+use Rattle.links.proofs.ShortenLaws.{part-at, fitted-only, path-long}
 
 -- ---- the squares, then the search
 
-module _ (l : Lattice) (L : Laid l) (m : List ℕ) (M : cells l ≤ length m) (u : List ℕ) (A : 15 * cells l ≤ length u) where
+module _ (l : Lattice) (L : Laid l) (m : List ℕ) (M : cells l ≤ length m) (u : List ℕ) (A : 15 * cells l ≤ length u) (b : ℕ) (B : b ≡ 5 * cells l) where
   sides : least.Sides (l .grid .nx) (l .grid .ny)
   sides = let s = L .sides in record { column = s .wide; wide = s .columns; row = s .high; high = s .rows }
 
-  part : Fits 0 (5 * cells l) u
+  part : Fits 0 b u
   part = record { start = omega arith; end = omega arith }
 
-  room : 4 * cells l ≤ length (take (5 * cells l - 0) (drop 0 u))
-  room = omega (arith, region-long 0 (5 * cells l) u part)
+  room : 4 * cells l ≤ length (take (b - 0) (drop 0 u))
+  room = omega (arith, region-long 0 b u part)
 
   narrow : cells l + 3 * l .grid .nx ≤ 4 * cells l
   narrow = let z : 1 * l .grid .nx ≤ cells l = mul-le-mul-right (l .grid .nx) (L .sides .high) in omega arith
 
-  pub transform-asks : least.Sides (l .grid .nx) (l .grid .ny) × ((cells l ≤ length m) × (cells l + 3 * l .grid .nx ≤ length (take (5 * cells l - 0) (drop 0 u))))
+  pub transform-asks : least.Sides (l .grid .nx) (l .grid .ny) × ((cells l ≤ length m) × (cells l + 3 * l .grid .nx ≤ length (take (b - 0) (drop 0 u))))
   transform-asks = (sides, (M, omega (arith, room, narrow)))
 
-  module _ (t : List ℕ) (T : least.Transformed 1 m (l .grid .nx) (l .grid .ny) (take (5 * cells l - 0) (drop 0 u)) t) (K : length t ≡ length (take (5 * cells l - 0) (drop 0 u))) where
+  module _ (t : List ℕ) (T : least.Transformed 1 m (l .grid .nx) (l .grid .ny) (take (b - 0) (drop 0 u)) t) (K : length t ≡ length (take (b - 0) (drop 0 u))) where
     abbrev u₁ : List ℕ
-    u₁ = putMid 0 (5 * cells l - 0) u t
+    u₁ = putMid 0 (b - 0) u t
 
     first : Only 0 (15 * cells l) u u₁
-    first = only-wider 0 (5 * cells l) u u₁ part (back-only 0 (5 * cells l) u part t K) 0 (15 * cells l) (omega arith) (omega arith) A
+    first = only-wider 0 b u u₁ part (back-only 0 b u part t K) 0 (15 * cells l) (omega arith) (omega arith) A
 
     pub transformed-squares : squaresIn l u₁ ≡ squaresOf 1 m (l .grid .nx) (l .grid .ny)
     unfolding within
     transformed-squares =
         ap (λ (k : ℕ). take k u₁) (let z : cells l - 0 ≡ cells l = omega arith in z)
-        ∙ sym (take-take (cells l) (5 * cells l - 0) u₁ (omega arith))
-        ∙ ap (take (cells l)) (back-there 0 (5 * cells l) u part t K)
+        ∙ sym (take-take (cells l) (b - 0) u₁ (omega arith))
+        ∙ ap (take (cells l)) (back-there 0 b u part t K)
         ∙ squares-are 1 m (l .grid .nx) (l .grid .ny) _ t sides (omega (arith, K, room)) T
 
     pub transformed-long : 15 * cells l ≤ length u₁
@@ -106,50 +106,58 @@ module _ (s : Setup) (vs : List Float) (lens m : List ℕ) (w : List Float) (F :
   pub nodes-in : nodes l ≤ size
   nodes-in = omega (arith, nodes-few l L, same-cells)
 
-  path : Fits (20 * size) (23 * size) w
-  path = record { start = omega arith; end = omega (arith, F .long) }
+  -- where the nodes before and the path begin
+  module _ (n : ℕ) (N : n ≡ nodes l) (b : ℕ) (B : b ≡ 5 * cells l) (a : ℕ) (P : a ≡ 20 * size) where
+    abbrev e : ℕ
+    e = a + 3 * size
 
-  module _ (n : ℕ) (N : n ≡ nodes l) where
+    path : Fits a e w
+    path = record { start = omega arith; end = omega (arith, F .long) }
+
     -- the nodes before, as they are lent
-    pub before-part : take (5 * cells l + n - 5 * cells l) (drop (5 * cells l) u) ≡ beforeIn l u
+    pub before-part : take (b + n - b) (drop b u) ≡ beforeIn l u
     unfolding within
     before-part =
         let f = nodes-few l L in
-        ap (λ (k : ℕ). take k (drop (5 * cells l) u)) (let z : 5 * cells l + n - 5 * cells l ≡ nodes l = omega arith in z)
+        ap (λ (k : ℕ). take (k + n - k) (drop k u)) B
+        ∙ ap (λ (k : ℕ). take k (drop (5 * cells l) u)) (let z : 5 * cells l + n - 5 * cells l ≡ nodes l = omega arith in z)
         ∙ sym (take-take (nodes l) (15 * cells l - 5 * cells l) (drop (5 * cells l) u) (let z : nodes l ≤ 15 * cells l - 5 * cells l = omega arith in z))
 
-    before-long : length (take (5 * cells l + n - 5 * cells l) (drop (5 * cells l) u)) ≡ nodes l
+    before-long : length (take (b + n - b) (drop b u)) ≡ nodes l
     before-long =
-        let z = region-long (5 * cells l) (5 * cells l + n) u (record { start = omega arith; end = omega (arith, nodes-few l L) }) in omega (arith, z)
+        let z = region-long b (b + n) u (record { start = omega arith; end = omega (arith, nodes-few l L) }) in omega (arith, z)
 
     pub lay-asks : Befores (nodes l) (beforeIn l u)
-        → Laid l × ((length (take (5 * cells l + n - 5 * cells l) (drop (5 * cells l) u)) ≡ nodes l) × (Befores (nodes l) (take (5 * cells l + n - 5 * cells l) (drop (5 * cells l) u)) × (2 * nodes l ≤ length (take (23 * size - 20 * size) (drop (20 * size) w)))))
-    lay-asks B = (L, (before-long, (subst (Befores (nodes l)) (sym before-part) B, omega (arith, region-long (20 * size) (23 * size) w path, nodes-in))))
+        → Laid l × ((length (take (b + n - b) (drop b u)) ≡ nodes l) × (Befores (nodes l) (take (b + n - b) (drop b u)) × (2 * nodes l ≤ length (take (e - a) (drop a w)))))
+    lay-asks B = (L, (before-long, (subst (Befores (nodes l)) (sym before-part) B, omega (arith, region-long a e w path, nodes-in))))
 
     -- the path's part comes back as r, its points from k on
-    module _ (r : List Float) (k : ℕ) (low : k < nodes l) (R : length r ≡ length (take (23 * size - 20 * size) (drop (20 * size) w))) where
+    module _ (r : List Float) (k : ℕ) (low : k < nodes l) (R : length r ≡ length (take (e - a) (drop a w))) where
       abbrev w₁ : List Float
-      w₁ = putMid (20 * size) (23 * size - 20 * size) w r
+      w₁ = putMid a (e - a) w r
 
       laid-only : Only (20 * size) (23 * size) w w₁
-      laid-only = back-only (20 * size) (23 * size) w path r R
+      laid-only = only-wider a e w w₁ path (back-only a e w path r R) (20 * size) (23 * size) (omega arith) (omega arith) (omega (arith, F .long))
+
+      whole : Fits (20 * size) (23 * size) w
+      whole = record { start = omega arith; end = omega (arith, F .long) }
 
       pub shorten-asks : Fitted s vs lens m w₁ × ((k ≤ n) × (2 * n ≤ 3 * size))
       shorten-asks = (fitted-only s vs lens m w F w₁ laid-only, (omega arith, omega (arith, nodes-in)))
 
-      pub trace-is : (to from : Vec2) → points k (nodes l - k) r ≡ nodesOf l (take (5 * cells l + n - 5 * cells l) (drop (5 * cells l) u)) to → (q : Kept) (w₂ : List Float)
+      pub trace-is : (to from : Vec2) → points k (nodes l - k) r ≡ nodesOf l (take (b + n - b) (drop b u)) to → (q : Kept) (w₂ : List Float)
           → keptIn s q w₂ ≡ shortenOf (clearIn s vs lens m w₁) (points k (n - k) (pathIn s w₁)) from → Only (20 * size) (23 * size) w₁ w₂
           → (keptIn s q w₂ ≡ shortenOf (clearIn s vs lens m w) (nodesOf l (beforeIn l u) to) from) × Only (20 * size) (23 * size) w w₂
       unfolding within
-      trace-is to from P q w₂ X Y = (
-        X ∙ ap (λ (wall : List Float). shortenOf (linkClear s wall vs lens m) (points k (n - k) (pathIn s w₁)) from) (only-before (20 * size) (23 * size) w path w₁ laid-only 0 size (omega arith) (omega arith))
+      trace-is to from S q w₂ X Y = (
+        X ∙ ap (λ (wall : List Float). shortenOf (linkClear s wall vs lens m) (points k (n - k) (pathIn s w₁)) from) (only-before (20 * size) (23 * size) w whole w₁ laid-only 0 size (omega arith) (omega arith))
             ∙ ap (λ (ps : List Vec2). shortenOf (clearIn s vs lens m w) ps from)
-            (ap (λ (c : ℕ). points k (c - k) (pathIn s w₁)) N ∙ ap (points k (nodes l - k)) (there tt) ∙ P ∙ ap (λ (b : List ℕ). nodesOf l b to) before-part),
-        only-more (20 * size) (23 * size) w path w₁ laid-only w₂ Y,
+            (ap (λ (c : ℕ). points k (c - k) (pathIn s w₁)) N ∙ ap (points k (nodes l - k)) (there tt) ∙ S ∙ ap (λ (b : List ℕ). nodesOf l b to) before-part),
+        only-more (20 * size) (23 * size) w whole w₁ laid-only w₂ Y,
       )
         where
           there : Unit {0} → pathIn s w₁ ≡ r
-          there _ = back-there (20 * size) (23 * size) w path r R
+          there _ = sym (part-at a e (20 * size) (23 * size) w₁ P (omega arith)) ∙ back-there a e w path r R
 
 -- ---- what a change between the wall distances and the rim leaves of both
 
@@ -197,31 +205,32 @@ module _ (l : Lattice) (allowed squares : List ℕ) where
 -- ---- over the lattice
 
 module _ (s : Setup) (vs : List Float) (lens m allowed : List ℕ) (w : List Float) (F : Fitted s vs lens m w) (l : Lattice) (L : Laid l) (G : l .grid ≡ s .grid)
-    (H : Over (s .grid) (length allowed)) (u : List ℕ) (A : 15 * (s .grid .ny * s .grid .nx) ≤ length u) where
+    (H : Over (s .grid) (length allowed)) (u : List ℕ) (A : 15 * (s .grid .ny * s .grid .nx) ≤ length u)
+    (a : ℕ) (C : a ≡ 10 * (s .grid .ny * s .grid .nx)) (e : ℕ) (P : e ≡ 20 * (s .grid .ny * s .grid .nx)) where
   abbrev n : ℕ
   n = s .grid .ny * s .grid .nx
 
   same : cells l ≡ n
   same = ap (λ (g : Grid). g .ny * g .nx) G
 
-  lent : Fits (10 * n) (20 * n) w
+  lent : Fits a e w
   lent = record { start = omega arith; end = omega (arith, F .long) }
 
-  pub around-asks : Laid l × (Over (l .grid) (length m) × (Over (l .grid) (length allowed) × ((15 * cells l ≤ length u) × (10 * cells l ≤ length (take (20 * n - 10 * n) (drop (10 * n) w))))))
+  pub around-asks : Laid l × (Over (l .grid) (length m) × (Over (l .grid) (length allowed) × ((15 * cells l ≤ length u) × (10 * cells l ≤ length (take (e - a) (drop a w))))))
   around-asks =
-      (L, (subst (λ (g : Grid). Over g (length m)) (sym G) (F .over), (subst (λ (g : Grid). Over g (length allowed)) (sym G) H, (omega (arith, same), omega (arith, same, region-long (10 * n) (20 * n) w lent)))))
+      (L, (subst (λ (g : Grid). Over g (length m)) (sym G) (F .over), (subst (λ (g : Grid). Over g (length allowed)) (sym G) H, (omega (arith, same), omega (arith, same, region-long a e w lent)))))
 
   -- the search's answer, and what it leaves
   module _ (o : Sought) (u₁ : List ℕ) (c′ : List Float) (X : outcomeIn l o u₁ ≡ seekOf l allowed (squaresOf 1 m (l .grid .nx) (l .grid .ny)))
-      (Y : Only 0 (15 * cells l) u u₁) (Z : length c′ ≡ length (take (20 * n - 10 * n) (drop (10 * n) w))) where
+      (Y : Only 0 (15 * cells l) u u₁) (Z : length c′ ≡ length (take (e - a) (drop a w))) where
     abbrev wₛ : List Float
-    wₛ = putMid (10 * n) (20 * n - 10 * n) w c′
+    wₛ = putMid a (e - a) w c′
 
-    costs-only : Only (10 * n) (20 * n) w wₛ
-    costs-only = back-only (10 * n) (20 * n) w lent c′ Z
+    costs-only : Only a e w wₛ
+    costs-only = back-only a e w lent c′ Z
 
     wide : Only (10 * n) (23 * n) w wₛ
-    wide = only-wider (10 * n) (20 * n) w wₛ lent costs-only (10 * n) (23 * n) (omega arith) (omega arith) (omega (arith, F .long))
+    wide = only-wider a e w wₛ lent costs-only (10 * n) (23 * n) (omega arith) (omega arith) (omega (arith, F .long))
 
     words-only : Only 0 (15 * n) u u₁
     words-only = subst (λ (k : ℕ). Only 0 (15 * k) u u₁) same Y
@@ -231,7 +240,7 @@ module _ (s : Setup) (vs : List Float) (lens m allowed : List ℕ) (w : List Flo
 
     pub trace-asks : Fitted s vs lens m wₛ × (Laid l × ((l .grid ≡ s .grid) × ((15 * cells l ≤ length u₁) × Befores (nodes l) (beforeIn l u₁))))
     trace-asks =
-        (fitted-kept s vs lens m w F (10 * (s .grid .ny * s .grid .nx)) (20 * (s .grid .ny * s .grid .nx)) (omega arith) (omega arith) (omega arith) wₛ costs-only, (L, (G, (omega (arith, same, Y .long), subst (Befores (nodes l)) (ap (λ (q : Outcome). q .before) (sym X)) (sound-seek l L allowed (squaresOf 1 m (l .grid .nx) (l .grid .ny)))))))
+        (fitted-kept s vs lens m w F a e (omega arith) (omega arith) (omega arith) wₛ costs-only, (L, (G, (omega (arith, same, Y .long), subst (Befores (nodes l)) (ap (λ (q : Outcome). q .before) (sym X)) (sound-seek l L allowed (squaresOf 1 m (l .grid .nx) (l .grid .ny)))))))
 
     module _ (from to : Vec2) where
       by : linked (cond (o .found) (shortenOf (linkClear s (wallIn s w) vs lens m) (nodesOf l (beforeIn l u₁) to) from) lost) (o .expanded * 8)
@@ -241,13 +250,13 @@ module _ (s : Setup) (vs : List Float) (lens m allowed : List ℕ) (w : List Flo
 
       pub around-not : o .found ≡ false
           → (linkedIn s (record { found = false; points = 0; work = o .expanded * 8 }) wₛ ≡ aroundOf s (wallIn s w) vs lens m allowed from to l) × (Only 0 (15 * n) u u₁ × Only (10 * n) (23 * n) w wₛ)
-      around-not e = (sym (ap (λ (t : Bool). linked (cond t (shortenOf (linkClear s (wallIn s w) vs lens m) (nodesOf l (beforeIn l u₁) to) from) lost) (o .expanded * 8)) e) ∙ by, (words-only, wide))
+      around-not d = (sym (ap (λ (t : Bool). linked (cond t (shortenOf (linkClear s (wallIn s w) vs lens m) (nodesOf l (beforeIn l u₁) to) from) lost) (o .expanded * 8)) d) ∙ by, (words-only, wide))
 
-      module _ (e : o .found ≡ true) (k : Kept) (w₂ : List Float) (K : keptIn s k w₂ ≡ shortenOf (clearIn s vs lens m wₛ) (nodesOf l (beforeIn l u₁) to) from) (O : Only (20 * n) (23 * n) wₛ w₂) where
+      module _ (d : o .found ≡ true) (k : Kept) (w₂ : List Float) (K : keptIn s k w₂ ≡ shortenOf (clearIn s vs lens m wₛ) (nodesOf l (beforeIn l u₁) to) from) (O : Only (20 * n) (23 * n) wₛ w₂) where
         found : linked (keptIn s k w₂) (o .expanded * 8) ≡ aroundOf s (wallIn s w) vs lens m allowed from to l
         found =
-            ap (λ (p : Way). linked p (o .expanded * 8)) (K ∙ ap (λ (wall : List Float). shortenOf (linkClear s wall vs lens m) (nodesOf l (beforeIn l u₁) to) from) (wall-kept s vs lens m w F (10 * (s .grid .ny * s .grid .nx)) (20 * (s .grid .ny * s .grid .nx)) (omega arith) (omega arith) (omega arith) wₛ costs-only))
-            ∙ sym (ap (λ (t : Bool). linked (cond t (shortenOf (linkClear s (wallIn s w) vs lens m) (nodesOf l (beforeIn l u₁) to) from) lost) (o .expanded * 8)) e)
+            ap (λ (p : Way). linked p (o .expanded * 8)) (K ∙ ap (λ (wall : List Float). shortenOf (linkClear s wall vs lens m) (nodesOf l (beforeIn l u₁) to) from) (wall-kept s vs lens m w F a e (omega arith) (omega arith) (omega arith) wₛ costs-only))
+            ∙ sym (ap (λ (t : Bool). linked (cond t (shortenOf (linkClear s (wallIn s w) vs lens m) (nodesOf l (beforeIn l u₁) to) from) lost) (o .expanded * 8)) d)
             ∙ by
 
         rest : Only (10 * n) (23 * n) w w₂
@@ -257,11 +266,11 @@ module _ (s : Setup) (vs : List Float) (lens m allowed : List ℕ) (w : List Flo
 
         pub around-lost : k ≡ Lost
             → (linkedIn s (record { found = false; points = 0; work = o .expanded * 8 }) w₂ ≡ aroundOf s (wallIn s w) vs lens m allowed from to l) × (Only 0 (15 * n) u u₁ × Only (10 * n) (23 * n) w w₂)
-        around-lost d = (sym (ap (λ (q : Kept). linked (keptIn s q w₂) (o .expanded * 8)) d) ∙ found, (words-only, rest))
+        around-lost z = (sym (ap (λ (q : Kept). linked (keptIn s q w₂) (o .expanded * 8)) z) ∙ found, (words-only, rest))
 
         pub around-found : (c : ℕ) → k ≡ Points c
             → (linkedIn s (record { found = true; points = c; work = o .expanded * 8 }) w₂ ≡ aroundOf s (wallIn s w) vs lens m allowed from to l) × (Only 0 (15 * n) u u₁ × Only (10 * n) (23 * n) w w₂)
-        around-found c d = (sym (ap (λ (q : Kept). linked (keptIn s q w₂) (o .expanded * 8)) d) ∙ found, (words-only, rest))
+        around-found c z = (sym (ap (λ (q : Kept). linked (keptIn s q w₂) (o .expanded * 8)) z) ∙ found, (words-only, rest))
 
 -- ---- the link
 

@@ -4,14 +4,14 @@ use mathlib.Core.Bool.{Bool, true, false, cond}
 use mathlib.Core.List.{List, [], _∷_, _++_}
 use Prim.Native.Nat.{ℕ, zero, suc, _+_, _-_, _*_, _≤_, _<_}
 use native.Mathlib.Omega.{arith}
-use lib.ListN.{length}
+use lib.ListN.{length, take, drop}
 use lib.Ieee.{Float}
 use borrow.Author.Tests.{lt-ltb, le-ltb}
 use borrow.Rule.Slice.PartMut.{putMid}
 use Rattle.loops.specs.Regions.{Fits, within}
 use Rattle.loops.proofs.RegionLaws.{region-long}
 use Rattle.loops.specs.Frame.{Only}
-use Rattle.loops.proofs.FrameLaws.{back-there, back-only, only-same, only-more, only-before, only-after}
+use Rattle.loops.proofs.FrameLaws.{back-there, back-only, only-same, only-more, only-before, only-after, only-wider}
 use Rattle.geom.specs.Region.{vertexOf}
 use Rattle.geom.specs.Points.{putPoint, points}
 use Rattle.geom.specs.declared.vec2.Vec2.{Vec2}
@@ -141,16 +141,35 @@ module _ (s : Setup) (vs : List Float) (lens m : List ℕ) (w : List Float) (F :
     long = omega (arith, F .long, o .long);
   }
 
--- the path's part comes back as r
-pub keep-is : (s : Setup) (w : List Float) (k : ℕ) (p : Vec2) → 32 * (s .grid .ny * s .grid .nx) ≤ length w → (r : List Float) → r ≡ putPoint k p (pathIn s w)
-    → (pathIn s (putMid (20 * (s .grid .ny * s .grid .nx)) (23 * (s .grid .ny * s .grid .nx) - 20 * (s .grid .ny * s .grid .nx)) w r) ≡ putPoint k p (pathIn s w))
-    × Only (20 * (s .grid .ny * s .grid .nx)) (23 * (s .grid .ny * s .grid .nx)) w (putMid (20 * (s .grid .ny * s .grid .nx)) (23 * (s .grid .ny * s .grid .nx) - 20 * (s .grid .ny * s .grid .nx)) w r)
+-- a part whose ends are known by equations
+pub part-at : {A : Type 0} (a e b f : ℕ) (w : List A) → a ≡ b → e ≡ f → take (e - a) (drop a w) ≡ within b f w
 unfolding within
-keep-is s w k p h r R =
-    let n = s .grid .ny * s .grid .nx in
-    let f : Fits (20 * n) (23 * n) w = record { start = omega arith; end = omega arith } in
-    let l = ap length R ∙ put-length k p (pathIn s w) in
-    (back-there (20 * n) (23 * n) w f r l ∙ R, back-only (20 * n) (23 * n) w f r l)
+part-at a e b f w p q = ap (λ (z : ℕ). take (z - a) (drop a w)) q ∙ ap (λ (z : ℕ). take (f - z) (drop z w)) p
+
+-- the rim's part, as it is lent
+pub rim-at : (s : Setup) (w : List Float) (a : ℕ) → a ≡ 32 * (s .grid .ny * s .grid .nx) → (e : ℕ) → e ≡ 32 * (s .grid .ny * s .grid .nx) + 4096
+    → Rim (samplesOf (s .samples)) (within (32 * (s .grid .ny * s .grid .nx)) (32 * (s .grid .ny * s .grid .nx) + 4096) w) → Rim (samplesOf (s .samples)) (take (e - a) (drop a w))
+rim-at s w a p e q R = subst (Rim (samplesOf (s .samples))) (sym (part-at a e (32 * (s .grid .ny * s .grid .nx)) (32 * (s .grid .ny * s .grid .nx) + 4096) w p q)) R
+
+module _ (s : Setup) (w : List Float) (a : ℕ) (P : a ≡ 20 * (s .grid .ny * s .grid .nx)) where
+  abbrev e : ℕ
+  e = a + 3 * (s .grid .ny * s .grid .nx)
+
+  -- the path's part, as it is lent
+  pub path-at : take (e - a) (drop a w) ≡ pathIn s w
+  path-at = part-at a e (20 * (s .grid .ny * s .grid .nx)) (23 * (s .grid .ny * s .grid .nx)) w P (omega arith)
+
+  -- it comes back as r
+  pub keep-is : (k : ℕ) (p : Vec2) → 32 * (s .grid .ny * s .grid .nx) ≤ length w → (r : List Float) → r ≡ putPoint k p (take (e - a) (drop a w))
+      → (pathIn s (putMid a (e - a) w r) ≡ putPoint k p (pathIn s w)) × Only (20 * (s .grid .ny * s .grid .nx)) (23 * (s .grid .ny * s .grid .nx)) w (putMid a (e - a) w r)
+  unfolding within
+  keep-is k p h r R =
+      let n = s .grid .ny * s .grid .nx in
+      let f : Fits a e w = record { start = omega arith; end = omega arith } in
+      let l = ap length R ∙ put-length k p (take (e - a) (drop a w)) in (
+        sym (part-at a e (20 * n) (23 * n) (putMid a (e - a) w r) P (omega arith)) ∙ back-there a e w f r l ∙ R ∙ ap (putPoint k p) path-at,
+        only-wider a e w _ f (back-only a e w f r l) (20 * n) (23 * n) (omega arith) (omega arith) (omega arith),
+      )
 
 pub path-long : (s : Setup) (w : List Float) → 32 * (s .grid .ny * s .grid .nx) ≤ length w → length (pathIn s w) ≡ 3 * (s .grid .ny * s .grid .nx)
 unfolding within

@@ -20,6 +20,7 @@ use super::search::Sought;
 use geom::vec2::Vec2;
 use raster::grid::Found;
 use setup::Setup;
+use setup::layout;
 
 // How many points the way has, and the work of its search.
 pub struct Route {
@@ -39,7 +40,7 @@ fn search(l: Lattice, map: &[u8], allowed: &[u8], u: &mut [u32], costs: &mut [f6
     ensures { λ _. ⌜ Only 0 (15 * cells l) (now (u .entry)) (now (u .exit)) ⌝ }
     ensures { λ _. ⌜ length (now (costs .exit)) ≡ length (now (costs .entry)) ⌝ }
 {
-    let end = 5 * (l.grid.ny * l.grid.nx);
+    let end = layout::before(l.grid.ny * l.grid.nx);
     distance::transform(map, 1, l.grid.nx, l.grid.ny, &mut u[0..end]);
     let limit = limit_of(l);
     super::search::seek(l, limit, allowed, u, costs)
@@ -66,10 +67,11 @@ fn trace(
     ensures { λ _. ⌜ Only (pathFrom (cellsOf s)) (pathEnd (cellsOf s)) (now (w .entry)) (now (w .exit)) ⌝ }
 {
     let n = nodes_of(l);
-    let first = 5 * (l.grid.ny * l.grid.nx);
+    let first = layout::before(l.grid.ny * l.grid.nx);
     let last = first + n;
-    let a = 20 * (s.grid.ny * s.grid.nx);
-    let e = 23 * (s.grid.ny * s.grid.nx);
+    let size = s.grid.ny * s.grid.nx;
+    let a = layout::path(size);
+    let e = a + 3 * size;
     let k = super::path::lay(l, &u[first..last], &mut w[a..e], to);
     super::path::shorten(s, vs, lens, map, w, from, k, n)
 }
@@ -96,8 +98,9 @@ fn around(
     ensures { λ _. ⌜ Only 0 (15 * cellsOf s) (now (u .entry)) (now (u .exit)) ⌝ }
     ensures { λ _. ⌜ Only (costFrom (cellsOf s)) (pathEnd (cellsOf s)) (now (w .entry)) (now (w .exit)) ⌝ }
 {
-    let a = 10 * (s.grid.ny * s.grid.nx);
-    let e = 20 * (s.grid.ny * s.grid.nx);
+    let n = s.grid.ny * s.grid.nx;
+    let a = layout::cost(n);
+    let e = layout::path(n);
     let o = search(l, map, allowed, u, &mut w[a..e]);
     let work = o.expanded * 8;
     if !o.found {

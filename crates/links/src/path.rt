@@ -1,5 +1,5 @@
-// The path back from the goal of a search, and its shortening. In the f64 of the workspace, of n cells,
-// the wall distances are at 0, the path's points from 20 n to 23 n and the rim's directions at 32 n.
+// The path back from the goal of a search, and its shortening. The wall distances, the path's points and
+// the rim's directions are in the workspace's f64, where setup's layout has them.
 ghost use mathlib.Core.Path.{_≡_};
 ghost use Prim.Native.Nat.{_+_, _-_, _*_, _≤_, _<_};
 ghost use lib.ListN.{length};
@@ -22,6 +22,7 @@ use geom::points::put;
 use geom::region::vertex;
 use geom::vec2::Vec2;
 use setup::Setup;
+use setup::layout;
 
 // A point in view, by its number.
 pub enum Seen {
@@ -70,8 +71,8 @@ pub fn clear(s: Setup, vs: &[f64], lens: &[u32], map: &[u8], w: &[f64], a: Vec2,
     ensures { λ t. ⌜ t ≡ clearIn s (now (vs .entry)) (now (lens .entry)) (now (map .entry)) (now (w .entry)) a b ⌝ }
 {
     let n = s.grid.ny * s.grid.nx;
-    let rim = 32 * n;
-    let end = rim + 4096;
+    let rim = layout::rim(n);
+    let end = layout::crossings(n);
     link_clear(s, &w[0..n], vs, lens, map, &w[rim..end], a, b)
 }
 
@@ -83,8 +84,8 @@ fn point(s: Setup, w: &[f64], k: usize) -> Vec2
     ensures { λ p. ⌜ p ≡ vertexOf (pathIn s (now (w .entry))) k ⌝ }
 {
     let n = s.grid.ny * s.grid.nx;
-    let from = 20 * n;
-    let to = 23 * n;
+    let from = layout::path(n);
+    let to = from + 3 * n;
     vertex(&w[from..to], k)
 }
 
@@ -124,8 +125,8 @@ pub fn keep(s: Setup, w: &mut [f64], k: usize, p: Vec2)
     ensures { λ _. ⌜ Only (pathFrom (cellsOf s)) (pathEnd (cellsOf s)) (now (w .entry)) (now (w .exit)) ⌝ }
 {
     let n = s.grid.ny * s.grid.nx;
-    let from = 20 * n;
-    let to = 23 * n;
+    let from = layout::path(n);
+    let to = from + 3 * n;
     put(&mut w[from..to], k, p);
 }
 

@@ -1,17 +1,18 @@
 -- `links::path::clear` meets its contract. Assumes nothing.
 use Rattle.loops.specs.Regions.{within}
 use borrow.Author.Needs.{needs}
+use Rattle.links.proofs.ShortenLaws.{rim-at}
 use Rattle.links.proofs.path.clear.Statement.{statement}
 use Rattle.links.proofs.path.clear.Tie as tie
 
 mul-n : tie.Need-mul-n
 mul-n c = search needs
 
-mul-rim : tie.Need-mul-rim
-mul-rim c = search needs
+rim-requires : tie.Need-rim-requires
+rim-requires c κs = search needs
 
-add-end : tie.Need-add-end
-add-end c = search needs
+crossings-requires : tie.Need-crossings-requires
+crossings-requires c κs = search needs
 
 sub-link-clear : tie.Need-sub-link-clear
 sub-link-clear c = search needs
@@ -36,7 +37,7 @@ part-link-clear-end-2 c = search needs
 
 link-clear-requires : tie.Need-link-clear-requires
 unfolding within
-link-clear-requires c κs = let p = c .before .before .before .before .before .before .before .pre in (p .walls, (p .over, p .rim))
+link-clear-requires c κs = let s = c .before .before .before .before .before .before .before .before .before in (s .pre .walls, (s .pre .over, rim-at (s .args .s) (s .args .w .now) _ (c .before .before .before .rim .ensures) _ (c .before .before .crossings .ensures) (s .pre .rim)))
 
 returns : tie.Need-returns
 unfolding within
@@ -47,8 +48,8 @@ clear-spec =
     tie.close
     (tie.spec
     mul-n
-    mul-rim
-    add-end
+    rim-requires
+    crossings-requires
     sub-link-clear
     part-link-clear-start
     part-link-clear-end

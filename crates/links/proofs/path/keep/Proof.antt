@@ -1,18 +1,20 @@
 -- `links::path::keep` meets its contract. Assumes nothing.
-use Rattle.loops.specs.Regions.{within}
-use Rattle.links.proofs.ShortenLaws.{keep-is}
 use borrow.Author.Needs.{needs}
+use Rattle.links.proofs.ShortenLaws.{keep-is}
 use Rattle.links.proofs.path.keep.Statement.{statement}
 use Rattle.links.proofs.path.keep.Tie as tie
 
 mul-n : tie.Need-mul-n
 mul-n c = search needs
 
-mul-from : tie.Need-mul-from
-mul-from c = search needs
+path-requires : tie.Need-path-requires
+path-requires c κs = search needs
 
 mul-to : tie.Need-mul-to
 mul-to c = search needs
+
+add-to : tie.Need-add-to
+add-to c = search needs
 
 mul-put : tie.Need-mul-put
 mul-put c = search needs
@@ -33,16 +35,16 @@ same-length : tie.Need-same-length
 same-length c = search needs
 
 returns : tie.Need-returns
-unfolding within
-returns c = let s = c .before .before .before .before .before .before in keep-is (s .args .s) _ _ _ (s .pre .1 .0) _ (c .before .before .put .ensures)
+returns c = let s = c .before .before .before .before .before .before .before in keep-is (s .args .s) _ _ (c .before .before .before .before .path .ensures) _ _ (s .pre .1 .0) _ (c .before .before .put .ensures)
 
 pub keep-spec : {M : Type 1} → statement M
 keep-spec =
     tie.close
     (tie.spec
     mul-n
-    mul-from
+    path-requires
     mul-to
+    add-to
     mul-put
     sub-put
     part-put-start

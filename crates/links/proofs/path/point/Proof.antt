@@ -1,17 +1,24 @@
 -- `links::path::point` meets its contract. Assumes nothing.
-use Rattle.loops.specs.Regions.{within}
+use mathlib.Core.Path.{ap, _∙_}
+use mathlib.Core.List.{List}
+use lib.Ieee.{Float}
 use borrow.Author.Needs.{needs}
+use Rattle.geom.specs.Region.{vertexOf}
+use Rattle.links.proofs.ShortenLaws.{path-at}
 use Rattle.links.proofs.path.point.Statement.{statement}
 use Rattle.links.proofs.path.point.Tie as tie
 
 mul-n : tie.Need-mul-n
 mul-n c = search needs
 
-mul-from : tie.Need-mul-from
-mul-from c = search needs
+path-requires : tie.Need-path-requires
+path-requires c κs = search needs
 
 mul-to : tie.Need-mul-to
 mul-to c = search needs
+
+add-to : tie.Need-add-to
+add-to c = search needs
 
 mul-vertex : tie.Need-mul-vertex
 mul-vertex c = search needs
@@ -29,16 +36,16 @@ vertex-requires : tie.Need-vertex-requires
 vertex-requires c κs = search needs
 
 returns : tie.Need-returns
-unfolding within
-returns c = c .vertex .ensures
+returns c = let s = c .before .before .before .before .before in c .vertex .ensures ∙ ap (λ (q : List Float). vertexOf q (s .args .k)) (path-at (s .args .s) (s .args .w .now) _ (c .before .before .path .ensures))
 
 pub point-spec : {M : Type 1} → statement M
 point-spec =
     tie.close
     (tie.spec
     mul-n
-    mul-from
+    path-requires
     mul-to
+    add-to
     mul-vertex
     sub-vertex
     part-vertex-start
