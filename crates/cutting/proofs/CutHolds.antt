@@ -19,6 +19,7 @@ use Rattle.events.specs.Chunk.{Point, Chunk, cut}
 use Rattle.events.specs.Lent.{rowsFrom, allTriples, Holds, HoldsTrial, gapTriples, putRows}
 use Rattle.events.specs.Read.{spotAt, pointsFrom}
 use Rattle.events.proofs.LentLaws.{trial-withdrawn, triples-append}
+use Rattle.events.proofs.PassLaws.{points-long}
 use Rattle.passes.specs.Attempt.{Outcome}
 use Rattle.passes.specs.Tried.{Measured}
 use Rattle.cutting.specs.Tries.{Tries, triesOf}
@@ -28,7 +29,7 @@ use Rattle.cutting.specs.Piece.{spending, Left, WithEvents, lf, listedOf
 use Rattle.cutting.specs.declared.piece.State.{State as Plan}
 use Rattle.cutting.specs.declared.piece.Cut.{Cut}
 use Rattle.cutting.specs.declared.piece.Cut.the-variants.{Nothing, Kept, Refused}
-use Rattle.cutting.proofs.ListingLaws.{put-rows-long, points-from-long, way-singles}
+use Rattle.cutting.proofs.ListingLaws.{rows-long, way-singles}
 use Rattle.cutting.proofs.RefusalLaws.{needs-are, refusal-none}
 use Rattle.cutting.proofs.ListedLaws.{listed-holds, gap-long}
 use Rattle.cutting.proofs.TriesKeep.{tries-long, tries-room}
@@ -80,13 +81,13 @@ module _ (s : Setup) (w : Way) (removed n : ℕ) (t : Plan) (m d log rows : List
         let r = refusal-none (length o / 3 - t .triples) (length rows / 3 - t .rows) (length ms) (length ps) (sym (needs-are _ _ w (spotAt o (t .triples)) ps) ∙ e) in
         let a = r .0 in
         let b = r .1 in
-        let l = points-from-long o (t .triples) n in
+        let l = points-long o (t .triples) n in
         (omega arith, omega arith)
 
     listed-there : (t .triples + length ms + n) * 3 ≤ length o → (t .rows + length ms + 1) * 3 ≤ length rows → CutHolds rows o cs new (listedOf s w removed n t m d log rows o .left)
     unfolding listedOf
     listed-there a b =
-        let l = points-from-long o (t .triples) n in
+        let l = points-long o (t .triples) n in
         record {
           held =
               subst (λ (k : ℕ). Holds (putRows (t .rows) (rowsFrom (t .triples) new) rows) (gapTriples (t .triples) k (allTriples ms) o) (cs ++ new)) l
@@ -97,7 +98,7 @@ module _ (s : Setup) (w : Way) (removed n : ℕ) (t : Plan) (m d log rows : List
             length-append cs new ∙ ap (λ (k : ℕ). k + length new) A,
             ap length (triples-append cs new) ∙ length-append (allTriples cs) (allTriples new) ∙ ap (λ (k : ℕ). k + length (allTriples new)) B,
           );
-          rows-long = put-rows-long (rowsFrom (t .triples) new) (t .rows) rows;
+          rows-long = rows-long (rowsFrom (t .triples) new) (t .rows) rows;
           out-long = gap-long (t .triples) n (allTriples ms) o (omega (arith, way-singles w (spotAt o (t .triples))));
         }
 

@@ -33,6 +33,7 @@ use Rattle.cutting.specs.declared.piece.Cut.{Cut}
 use Rattle.cutting.specs.declared.piece.Cut.the-variants.{Nothing, Kept, Refused}
 use Rattle.cutting.proofs.JudgeLaws.{jobAt}
 use Rattle.cutting.proofs.WayLegal.{positionOf, Leads, route-leads, way-goes, way-leaves, keep-checked, keep-leaves}
+use Rattle.cutting.proofs.TriesKeep.{ready-same}
 use Rattle.cutting.proofs.TryLegal.{TriesLegal}
 use Rattle.cutting.proofs.TriesLegal.{from-idle, tries-legal}
 
@@ -128,7 +129,7 @@ module _ (s : Setup) (wall vs : List Float) (lens start : List ℕ) (limit : Flo
       legal = (record { points = pn; on = refl }, tt);
       leaves = λ i. state (st (K .back i) (k .log) 0) (sym (append-nil cs) i) (positionOf (t .pos)) none;
       still = refl;
-      ready = record { room = omega (arith, R .room, long); small = R .small };
+      ready = ready-same m log (k .log) R long;
       map-long = refl;
       log-long = long;
     }
@@ -179,7 +180,7 @@ module _ (s : Setup) (wall vs : List Float) (lens allowed : List ℕ) (pts : Lis
           legal = h .legal;
           leaves = h .idle w ∙ (λ i. state (st m (c .log) 0) ((sym (append-nil cs) ∙ ap (λ (n : List Chunk). cs ++ n) (sym a)) i) (sym b i) none);
           still = y;
-          ready = record { room = omega (arith, R .room, h .long); small = R .small };
+          ready = ready-same m log (c .log) R (h .long);
           map-long = refl;
           log-long = h .long;
         }

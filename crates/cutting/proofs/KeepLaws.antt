@@ -18,6 +18,7 @@ use Rattle.events.specs.Chunk.{Chunk, cut}
 use Rattle.events.specs.Events.{withdrawn}
 use Rattle.events.specs.Lent.{allTriples, rowsFrom, gapTriples, putRows}
 use Rattle.events.specs.Read.{spotAt, pointsFrom}
+use Rattle.events.proofs.PassLaws.{points-long}
 use Rattle.passes.specs.Shifts.{satAdd}
 use Rattle.passes.specs.declared.start.Place.the-variants.{At}
 use Rattle.cutting.specs.Way.{wayChunks}
@@ -27,7 +28,7 @@ use Rattle.cutting.specs.declared.piece.State.{State}
 use Rattle.cutting.specs.declared.piece.Cut.{Cut}
 use Rattle.cutting.specs.declared.piece.Cut.the-variants.{Kept, Refused}
 use Rattle.cutting.proofs.RefusalLaws.{needs-are, refusal-none}
-use Rattle.cutting.proofs.ListingLaws.{way-long, points-from-long}
+use Rattle.cutting.proofs.ListingLaws.{way-long}
 use Rattle.cutting.proofs.ListedLaws.{listed-long}
 use Rattle.cutting.proofs.SettleLaws.{settled-map, settled-dirty, settled-only}
 
@@ -72,7 +73,7 @@ module _ (s : Setup) (t : State) (b log : List ℕ) (path o : List Float) (rows 
     same-refusal =
         N ∙ sym (needs-are (length o / 3 - t .triples) (length rows / 3 - t .rows) by lead (pointsFrom o (t .triples) n)
         ∙ ap (λ (k : ℕ). refusalOf (length o / 3 - t .triples) (length rows / 3 - t .rows) (replicate k 1 ++ (length (pointsFrom o (t .triples) n) ∷ []))) way-moves
-        ∙ ap (λ (k : ℕ). refusalOf (length o / 3 - t .triples) (length rows / 3 - t .rows) (replicate moves 1 ++ (k ∷ []))) (points-from-long o (t .triples) n))
+        ∙ ap (λ (k : ℕ). refusalOf (length o / 3 - t .triples) (length rows / 3 - t .rows) (replicate moves 1 ++ (k ∷ []))) (points-long o (t .triples) n))
 
     -- not all of the chunks fit
     pub keep-refused : (no ≡ 0 → ⊥) → lf (run 0 size b) (run 4 size b) log rows o (Refused no) ≡ left
@@ -91,7 +92,7 @@ module _ (s : Setup) (t : State) (b log : List ℕ) (path o : List Float) (rows 
       row-count = omega (arith, length-append (wayChunks by lead) (cut (pointsFrom o (t .triples) n) ∷ []), way-moves)
 
       triple-count : t .triples + moves + n ≡ t .triples + length (allTriples new)
-      triple-count = omega (arith, listed-long by lead (pointsFrom o (t .triples) n), way-moves, points-from-long o (t .triples) n)
+      triple-count = omega (arith, listed-long by lead (pointsFrom o (t .triples) n), way-moves, points-long o (t .triples) n)
 
       pub keep-listed : 8 * size ≤ length b → (most : Float) → most ≡ greatestOf (pointsFrom o (t .triples) n) (t .«planned_max») → (p : Vec2) → p ≡ lead
           → (last : Vec2) → last ≡ spotAt o (t .triples + n - 1) → (o′ : List Float) → o′ ≡ gapTriples (t .triples) n (allTriples (wayChunks by p)) o

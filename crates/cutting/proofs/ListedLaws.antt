@@ -8,11 +8,11 @@ use lib.Ieee.{Float}
 use Rattle.geom.specs.declared.vec2.Vec2.{Vec2}
 use Rattle.links.specs.Path.{Way}
 use Rattle.events.specs.Chunk.{Point, Chunk, cut}
-use Rattle.events.specs.Lent.{Row, Triple, pointTriple, triplesOf, rowAt, rowsFrom, allTriples, HoldsRows, Holds, HoldsTrial, setRow, gapTriples, putRows}
+use Rattle.events.specs.Lent.{Row, Triple, pointTriple, triplesOf, rowAt, rowsFrom, allTriples, HoldsRows, Holds, HoldsTrial, setRow, gapTriples, putFrom, putRows}
 use Rattle.events.proofs.LentLaws.{triples-more, rows-set, trial-kept, trial-moves}
 use Rattle.events.proofs.ShiftLaws.{set3-long, big, big-long, gap-is}
 use Rattle.cutting.specs.Way.{wayChunks}
-use Rattle.cutting.proofs.ListingLaws.{put-long, put-rows-long, way-singles}
+use Rattle.cutting.proofs.ListingLaws.{triples-long, rows-long, way-singles}
 
 pub listed-long : (path : Way) (q : Vec2) (ps : List Point) → length (allTriples (wayChunks path q ++ (cut ps ∷ []))) ≡ length (wayChunks path q) + length ps
 listed-long path q ps =
@@ -20,11 +20,11 @@ listed-long path q ps =
     ∙ ap (λ (k : ℕ). k + length (triplesOf (cut ps))) (way-singles path q) ∙ ap (λ (k : ℕ). length (wayChunks path q) + k) (length-map ps pointTriple)
 
 pub gap-long : (k n : ℕ) (new : List Triple) (l : List Float) → (k + n + length new) * 3 ≤ length l → length (gapTriples k n new l) ≡ length l
-gap-long k n new l h = let f : k * 3 + n * 3 + length new * 3 ≤ length l = omega arith in sym (ap length (gap-is k n new l f)) ∙ put-long new k (big k n new l f) ∙ big-long k n new l f
+gap-long k n new l h = let f : k * 3 + n * 3 + length new * 3 ≤ length l = omega arith in sym (ap length (gap-is k n new l f)) ∙ triples-long new k (big k n new l f) ∙ big-long k n new l f
 
 -- the rows of ms put behind those of cs
 rows-hold : (ms cs : List Chunk) (rows : List ℕ) → (length cs + length ms) * 3 ≤ length rows → HoldsRows rows cs → HoldsRows (putRows (length cs) (rowsFrom (length (allTriples cs)) ms) rows) (cs ++ ms)
-unfolding rowsFrom putRows
+unfolding rowsFrom putFrom
 rows-hold [] cs rows a h = subst (HoldsRows rows) (sym (append-nil cs)) h
 rows-hold (m ∷ ms) cs rows a h =
     subst (λ (k : ℕ). HoldsRows (putRows k (rowsFrom (length (allTriples cs) + length (triplesOf m)) ms) next) (cs ++ (m ∷ ms))) (length-append cs (m ∷ []))
@@ -46,7 +46,7 @@ pub listed-holds : (rows : List ℕ) (o : List Float) (cs : List Chunk) (ps : Li
 listed-holds rows o cs ps path q a b h = record {
   rows = rows-hold (ms ++ (cut ps ∷ [])) cs rows (omega (arith, length-append ms (cut ps ∷ []))) (h .rows);
   triples = subst (λ (ds : List Chunk). Holds end new ds) (append-assoc cs ms (cut ps ∷ []))
-      (trial-kept moved new (cs ++ ms) ps (omega (arith, length-append cs ms, put-rows-long (rowsFrom (length (allTriples cs)) ms) (length cs) rows)) (trial-moves rows o cs ps ms moved (rows-hold ms cs rows (omega arith) (h .rows)) h)) .triples;
+      (trial-kept moved new (cs ++ ms) ps (omega (arith, length-append cs ms, rows-long (rowsFrom (length (allTriples cs)) ms) (length cs) rows)) (trial-moves rows o cs ps ms moved (rows-hold ms cs rows (omega arith) (h .rows)) h)) .triples;
 }
   where
     ms : List Chunk

@@ -14,35 +14,31 @@ use Rattle.geom.specs.declared.vec2.Vec2.{Vec2}
 use Rattle.geom.proofs.PointLaws.{points-length}
 use Rattle.links.specs.Path.{Way, lost, way}
 use Rattle.events.specs.Chunk.{Point, Chunk, plunge, link, cut}
-use Rattle.events.specs.Lent.{Row, Triple, tripleAt, pointTriple, rowAt, rowsFrom, allTriples, setRow, setTriple, gapTriples, shiftUp, putAll, putRows}
+use Rattle.events.specs.Lent.{Row, Triple, tripleAt, pointTriple, rowAt, rowsFrom, allTriples, setRow, setTriple, gapTriples, shiftUp, putFrom, putAll, putRows}
 use Rattle.events.specs.Read.{pointsFrom, pointAt}
 use Rattle.events.proofs.LentLaws.{triples-more, rows-more, length-rows}
+use Rattle.events.proofs.PassLaws.{points-long}
 use Rattle.events.proofs.ShiftLaws.{set3-long, gap-is}
 use Rattle.cutting.specs.Way.{wayChunks}
 
 -- ---- one more put
 
-pub put-more : (ts : List Triple) (t : Triple) (k : ℕ) (l : List Float) → putAll k (ts ++ (t ∷ [])) l ≡ setTriple (k + length ts) t (putAll k ts l)
-unfolding putAll
-put-more [] t k l = ap (λ (i : ℕ). setTriple i t l) (let z : k ≡ k + 0 = omega arith in z)
-put-more (s ∷ ts) t k l =
-    put-more ts t (k + 1) (setTriple k s l) ∙ ap (λ (i : ℕ). setTriple i t (putAll (k + 1) ts (setTriple k s l))) (let z : k + 1 + length ts ≡ k + suc (length ts) = omega arith in z)
+module _ {T E : Type 0} (f : ℕ → T → List E → List E) where
+  pub put-more : (ts : List T) (t : T) (k : ℕ) (l : List E) → putFrom f k (ts ++ (t ∷ [])) l ≡ f (k + length ts) t (putFrom f k ts l)
+  unfolding putFrom
+  put-more [] t k l = ap (λ (i : ℕ). f i t l) (let z : k ≡ k + 0 = omega arith in z)
+  put-more (s ∷ ts) t k l = put-more ts t (k + 1) (f k s l) ∙ ap (λ (i : ℕ). f i t (putFrom f (k + 1) ts (f k s l))) (let z : k + 1 + length ts ≡ k + suc (length ts) = omega arith in z)
 
-pub put-rows-more : (rs : List Row) (r : Row) (k : ℕ) (l : List ℕ) → putRows k (rs ++ (r ∷ [])) l ≡ setRow (k + length rs) r (putRows k rs l)
-unfolding putRows
-put-rows-more [] r k l = ap (λ (i : ℕ). setRow i r l) (let z : k ≡ k + 0 = omega arith in z)
-put-rows-more (s ∷ rs) r k l =
-    put-rows-more rs r (k + 1) (setRow k s l) ∙ ap (λ (i : ℕ). setRow i r (putRows (k + 1) rs (setRow k s l))) (let z : k + 1 + length rs ≡ k + suc (length rs) = omega arith in z)
+  pub put-long : ((k : ℕ) (t : T) (l : List E) → length (f k t l) ≡ length l) → (ts : List T) (k : ℕ) (l : List E) → length (putFrom f k ts l) ≡ length l
+  unfolding putFrom
+  put-long h [] k l = refl
+  put-long h (t ∷ ts) k l = put-long h ts (k + 1) (f k t l) ∙ h k t l
 
-pub put-long : (ts : List Triple) (k : ℕ) (l : List Float) → length (putAll k ts l) ≡ length l
-unfolding putAll
-put-long [] k l = refl
-put-long (t ∷ ts) k l = put-long ts (k + 1) (setTriple k t l) ∙ set3-long l (k * 3) (t .x) (t .y) (t .value)
+pub triples-long : (ts : List Triple) (k : ℕ) (l : List Float) → length (putAll k ts l) ≡ length l
+triples-long = put-long setTriple (λ k t l. set3-long l (k * 3) (t .x) (t .y) (t .value))
 
-pub put-rows-long : (rs : List Row) (k : ℕ) (l : List ℕ) → length (putRows k rs l) ≡ length l
-unfolding putRows
-put-rows-long [] k l = refl
-put-rows-long (r ∷ rs) k l = put-rows-long rs (k + 1) (setRow k r l) ∙ set3-long l (k * 3) (r .kind) (r .first) (r .count)
+pub rows-long : (rs : List Row) (k : ℕ) (l : List ℕ) → length (putRows k rs l) ≡ length l
+rows-long = put-long setRow (λ k r l. set3-long l (k * 3) (r .kind) (r .first) (r .count))
 
 -- ---- the links of a way
 
@@ -59,14 +55,14 @@ links-put : (ps : List Vec2) (p : Vec2) (k : ℕ) (l : List Float)
     → putAll k (allTriples (map link (ps ++ (p ∷ [])))) l ≡ setTriple (k + length ps) (tripleAt p f0) (putAll k (allTriples (map link ps)) l)
 links-put ps p k l =
     ap (λ (ts : List Triple). putAll k ts l) (ap allTriples (map-more link ps p) ∙ triples-more (map link ps) (link p))
-    ∙ put-more (allTriples (map link ps)) (tripleAt p f0) k l
+    ∙ put-more setTriple (allTriples (map link ps)) (tripleAt p f0) k l
     ∙ ap (λ (i : ℕ). setTriple (k + i) (tripleAt p f0) (putAll k (allTriples (map link ps)) l)) (links-long ps)
 
 links-rows : (ps : List Vec2) (p : Vec2) (n k : ℕ) (l : List ℕ)
     → putRows k (rowsFrom n (map link (ps ++ (p ∷ [])))) l ≡ setRow (k + length ps) (rowOf 3 (n + length ps) 1) (putRows k (rowsFrom n (map link ps)) l)
 links-rows ps p n k l =
     ap (λ (rs : List Row). putRows k rs l) (ap (rowsFrom n) (map-more link ps p) ∙ rows-more n (map link ps) (link p))
-    ∙ put-rows-more (rowsFrom n (map link ps)) (rowAt (n + length (allTriples (map link ps))) (link p)) k l
+    ∙ put-more setRow (rowsFrom n (map link ps)) (rowAt (n + length (allTriples (map link ps))) (link p)) k l
     ∙ ap (λ (i : ℕ). setRow (k + length (rowsFrom n (map link ps))) (rowOf 3 (n + i) 1) (putRows k (rowsFrom n (map link ps)) l)) (links-long ps)
     ∙ ap (λ (i : ℕ). setRow (k + i) (rowOf 3 (n + length ps) 1) (putRows k (rowsFrom n (map link ps)) l)) (length-rows n (map link ps) ∙ length-map ps link)
 
@@ -78,15 +74,15 @@ pub record Linking (path : List Float) (n first row : ℕ) (t₀ : List Float) (
 
 module _ (path : List Float) (n first row : ℕ) (t₀ : List Float) (r₀ : List ℕ) where
   pub linking-none : Linking path n first row t₀ r₀ t₀ r₀ 0
-  unfolding points allTriples rowsFrom putAll putRows
+  unfolding points allTriples rowsFrom putFrom
   linking-none = record { high = omega arith; triples = refl; rows = refl }
 
   module _ (t : List Float) (r : List ℕ) (k : ℕ) (g : Linking path n first row t₀ r₀ t r k) where
     pub linking-long : length t ≡ length t₀
-    linking-long = ap length (g .triples) ∙ put-long (allTriples (map link (points 0 k path))) first t₀
+    linking-long = ap length (g .triples) ∙ triples-long (allTriples (map link (points 0 k path))) first t₀
 
     pub linking-rows-long : length r ≡ length r₀
-    linking-rows-long = ap length (g .rows) ∙ put-rows-long (rowsFrom first (map link (points 0 k path))) row r₀
+    linking-rows-long = ap length (g .rows) ∙ rows-long (rowsFrom first (map link (points 0 k path))) row r₀
 
     pub linking-more : (p : Vec2) (t′ : List Float) (r′ : List ℕ) → k < n → p ≡ vertexOf path k → t′ ≡ setTriple (first + k) (tripleAt p f0) t → r′ ≡ setRow (row + k) (rowOf 3 (first + k) 1) r
         → Linking path n first row t₀ r₀ t′ r′ (k + 1)
@@ -117,7 +113,7 @@ module _ (path : List Float) (n first row : ℕ) (t₀ : List Float) (r₀ : Lis
 
 pub plunge-put : (p : Vec2) (first row : ℕ) (t : List Float) (r : List ℕ)
     → (setTriple first (tripleAt p f0) t ≡ putAll first (allTriples (plunge p ∷ [])) t) × (setRow row (rowOf 2 first 1) r ≡ putRows row (rowsFrom first (plunge p ∷ [])) r)
-unfolding allTriples rowsFrom putAll putRows
+unfolding allTriples rowsFrom putFrom
 plunge-put p first row t r = (refl, refl)
 
 pub way-found : (found : Bool) (ps : List Vec2) (q : Vec2) → found ≡ true → map link ps ≡ wayChunks (cond found (way ps) lost) q
@@ -155,10 +151,6 @@ way-long false count path q = refl
 
 -- ---- the pass behind the way
 
-pub points-from-long : (ts : List Float) (first n : ℕ) → length (pointsFrom ts first n) ≡ n
-points-from-long ts first zero = refl
-points-from-long ts first (suc n) = let i = points-from-long ts first n in omega (arith, length-append (pointsFrom ts first n) (pointAt ts (first + n) ∷ []))
-
 -- the moves ms of one triple each are put in the room made before the pass
 module _ (ms : List Chunk) (moves first row n : ℕ) (t : List Float) (r : List ℕ) (long : length (allTriples ms) ≡ moves) where
   pass-triples : (t₁ t₂ : List Float) → (first + moves + n) * 3 ≤ length t → t₁ ≡ shiftUp (first * 3) (n * 3) (moves * 3) t → t₂ ≡ putAll first (allTriples ms) t₁
@@ -173,7 +165,7 @@ module _ (ms : List Chunk) (moves first row n : ℕ) (t : List Float) (r : List 
       ∙ ap (λ (i : ℕ). setRow (row + i) (rowOf 4 (first + moves) n) old) (sym (length-rows first ms ∙ m))
       ∙ ap (λ (i : ℕ). setRow (row + length (rowsFrom first ms)) (rowOf 4 (first + i) n) old) (sym long)
       ∙ ap (λ (i : ℕ). setRow (row + length (rowsFrom first ms)) (rowOf 4 (first + length (allTriples ms)) i) old) (sym (length-map ps pointTriple ∙ p))
-      ∙ sym (ap (λ (rs : List Row). putRows row rs r) (rows-more first ms (cut ps)) ∙ put-rows-more (rowsFrom first ms) (rowAt (first + length (allTriples ms)) (cut ps)) row r)
+      ∙ sym (ap (λ (rs : List Row). putRows row rs r) (rows-more first ms (cut ps)) ∙ put-more setRow (rowsFrom first ms) (rowAt (first + length (allTriples ms)) (cut ps)) row r)
     where
       old : List ℕ
       old = putRows row (rowsFrom first ms) r
@@ -184,7 +176,7 @@ pub pass-put : (found : Bool) (count : ℕ) (path : List Float) (lead : Vec2) (m
     → (t₂ ≡ gapTriples first n (allTriples ms) t) × (r₂ ≡ putRows row (rowsFrom first (ms ++ (cut (pointsFrom t first n) ∷ []))) r)
 pass-put found count path lead moves first row n t t₁ t₂ r r₁ r₂ m fits a b d e = (
   pass-triples ms moves first row n t r (way-singles route lead ∙ long) t₁ t₂ (omega (arith, m)) a b,
-  pass-rows ms moves first row n t r (way-singles route lead ∙ long) (pointsFrom t first n) r₁ r₂ (points-from-long t first n) long d e,
+  pass-rows ms moves first row n t r (way-singles route lead ∙ long) (pointsFrom t first n) r₁ r₂ (points-long t first n) long d e,
 )
   where
     route : Way

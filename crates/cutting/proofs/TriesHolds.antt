@@ -1,15 +1,11 @@
 -- While a piece is tried the lent slices hold the listed chunks, and behind them the points of the last pass. Assumes nothing.
 use mathlib.Core.Path.{_≡_, refl, sym, _∙_, subst}
-use mathlib.Core.Bool.{Bool, _||_}
+use mathlib.Core.Bool.{Bool, false}
 use mathlib.Core.List.{List, []}
 use mathlib.Core.Option.{Option, none, some}
 use Prim.Native.Nat.{ℕ}
-use native.Mathlib.Omega.{arith}
 use lib.ListN.{length}
 use lib.Ieee.{Float}
-use Rattle.loops.specs.Loop.{Run, on, out, turn}
-use Rattle.loops.proofs.Cases.{by-test}
-use Rattle.loops.proofs.LoopLaws.{loop-keeps}
 use Rattle.geom.specs.Vec.{f0}
 use Rattle.geom.specs.declared.vec2.Vec2.{Vec2}
 use Rattle.raster.specs.Log.{st, Ready}
@@ -26,7 +22,8 @@ use Rattle.passes.specs.Tried.{Measured}
 use Rattle.passes.specs.declared.start.Place.{Place}
 use Rattle.passes.proofs.KeepLaws.{simulate-ran, ran-kept}
 use Rattle.passes.proofs.PieceLaws.{blend-tried}
-use Rattle.cutting.specs.Tries.{startsOf, startAt, guideOf, Tries, triedEnd, guideAt, tryStep, triesOf}
+use Rattle.cutting.specs.Tries.{startAt, guideOf, Tries, guideAt, tryAt, triesOf}
+use Rattle.cutting.proofs.TriesKeep.{ready-same, keeps-tries}
 
 -- the chunks cs with the points of the last pass behind them; l is the log's slice before the tries
 pub record Stands (rows : List ℕ) (cs : List Chunk) (kept : ℕ) (l : List ℕ) (c : Outcome) : Type 0 where
@@ -48,29 +45,16 @@ module _ (s : Setup) (allowed : Vec2 → Bool) (M : Measured s) (kept : ℕ) (m 
       }
 
   module _ (pts : List Vec2) (closed : Bool) (pos : Place) (log : List ℕ) (R : Ready (st m log 0)) where
-    abbrev Standing : Run Tries Tries → Type 0
-    Standing (on t) = Stands rows cs kept log (t .outcome)
-    Standing (out t) = Stands rows cs kept log (t .outcome)
+    abbrev Standing : Tries → Type 0
+    Standing t = Stands rows cs kept log (t .outcome)
 
     -- the pass before counts no more
-    stand-step : (k : ℕ) (r : Run Tries Tries) → Standing r → Standing (turn (tryStep s allowed pts closed pos kept m) k r)
-    unfolding turn tryStep guideAt
-    stand-step k (out t) h = h
-    stand-step k (on t) h =
+    stand-each : (k : ℕ) (t : Tries) → Standing t → t .outcome .attempt .worth ≡ false → Standing (tryAt s allowed pts closed pos kept m k t)
+    unfolding tryAt guideAt
+    stand-each k t h w =
         let c : Outcome = t .outcome in
-        let walk : List Vec2 = guideOf pts closed (startAt pts closed pos k) in
-        let g : Option (List Vec2) = blendOf s allowed (freeAt s m) walk in
-        let r : Outcome = startBy s allowed g kept m (c .log) (c .out) in
-        let ready : Ready (st m (c .log) 0) = record { room = omega (arith, R .room, h .long); small = R .small } in
-        let n = start-stands (c .log) (c .out) ready (trial-withdrawn rows (c .out) cs (pointsFrom (c .out) kept (c .attempt .points)) (h .held)) walk g refl in
-        by-test Standing (r .attempt .full || r .attempt .worth) _ _ (λ b. record { long = n .long ∙ h .long; held = n .held }) (λ b. record { long = n .long ∙ h .long; held = n .held })
-
-    stand-end : (r : Run Tries Tries) → Standing r → Stands rows cs kept log (triedEnd r .outcome)
-    unfolding triedEnd
-    stand-end (on t) h = h
-    stand-end (out t) h = h
+        let n = start-stands (c .log) (c .out) (ready-same m log (c .log) R (h .long)) (trial-withdrawn rows (c .out) cs (pointsFrom (c .out) kept (c .attempt .points)) (h .held)) (guideOf pts closed (startAt pts closed pos k)) _ refl in
+        record { long = n .long ∙ h .long; held = n .held }
 
     pub tries-stand : (o : List Float) → Holds rows o cs → Stands rows cs kept log (triesOf s allowed pts closed pos kept m log o .outcome)
-    unfolding triesOf
-    tries-stand o h =
-        stand-end _ (loop-keeps (turn (tryStep s allowed pts closed pos kept m)) 0 Standing (startsOf closed) (λ i r b c g. stand-step i r g) _ (record { long = refl; held = trial-none rows o cs h }))
+    tries-stand o h = keeps-tries s allowed pts closed pos kept m Standing stand-each log o (record { long = refl; held = trial-none rows o cs h })

@@ -33,8 +33,8 @@ use Rattle.passes.specs.declared.start.Place.{Place}
 use Rattle.passes.proofs.PieceLaws.{bent-long}
 use Rattle.passes.proofs.LayLaws.{flat-length, walk-length, part-half}
 use Rattle.passes.proofs.StartLaws.{near-below, start-below}
-use Rattle.cutting.specs.Tries.{startsOf, startAt, guideLong, guideOf, Tries, ts, tryEvents, triedEnd, guideAt, tryStep, triesOf, Among}
-use Rattle.cutting.proofs.TriesKeep.{Sound, Still, still-loop}
+use Rattle.cutting.specs.Tries.{startsOf, startAt, guideLong, guideOf, Tries, ts, tryEvents, triedEnd, guideAt, tryAt, tryStep, triesOf, Among}
+use Rattle.cutting.proofs.TriesKeep.{ready-same, Sound, sound-on}
 
 -- ---- the starts
 
@@ -184,14 +184,14 @@ module _ (s : Setup) (vs : List Float) (lens m₀ l₀ : List ℕ) (w₀ o₀ : 
         piece-same = ap (points 0 m) (only-before (guideFrom size) (23 * size) w₀ place w (T .only) from (from + 2 * m) (omega arith) (A .high))
 
         sound : Sound kept m₀ l₀ o₀ (oc l o a)
-        sound = subst (Still s may pts closed pos kept m₀ l₀ o₀ R) (sym (T .going .is)) (still-loop s may pts closed pos kept m₀ l₀ o₀ R k)
+        sound = sound-on s may pts closed pos kept m₀ l₀ o₀ R k (ts (oc l o a) (T .events)) (T .going .is)
 
         module _ (h : k < startsOf closed) (start : ℕ) (S : start ≡ startOf near m k) where
           pub try-asks : Fitted s vs lens mp w × (Ready (st mp l 0) × (Among size from m × (start + guideLong m closed ≤ 2 * m)))
           try-asks = (
             subst (λ (v : List ℕ). Fitted s vs lens v w) (sym (T .same)) (fitted-kept s vs lens m₀ w₀ F (guideFrom size) (23 * size) (omega arith) (omega arith) (omega arith) w (T .only)),
             (
-              subst (λ (v : List ℕ). Ready (st v l 0)) (sym (T .same)) (record { room = omega (arith, R .room, sound .log-long); small = R .small }),
+              subst (λ (v : List ℕ). Ready (st v l 0)) (sym (T .same)) (ready-same m₀ l₀ l R (sound .log-long)),
               (A, start-round pts m piece-long (A .some) pos closed near N k h start S),
             ),
           )
@@ -217,7 +217,7 @@ module _ (s : Setup) (vs : List Float) (lens m₀ l₀ : List ℕ) (w₀ o₀ : 
                 ∙ ap (λ (i : ℕ). startBy s may (blendOf s may (freeAt s m₀) (guideOf pts closed i)) kept m₀ l o) (start-is pts m piece-long (A .some) pos closed near N k h start S)
 
             step-is : tryStep s may pts closed pos kept m₀ k (ts (oc l o a) (T .events)) ≡ cond (t .full || t .worth) (out later) (on later)
-            unfolding tryStep
+            unfolding tryStep tryAt
             step-is =
                 let step : ℕ → Outcome → Run Tries Tries = λ i r.
                 let u = ts (oc (r .log) (r .out) (att (r .attempt .full) (r .attempt .worth) (r .attempt .points) (r .attempt .removed) i)) (T .events ++ tryEvents kept guide r) in

@@ -1,15 +1,11 @@
 -- The tries of a piece are legal events: nothing is left on trial, or the pass that is worth it. Assumes nothing.
 use mathlib.Core.Path.{_≡_, refl, sym, ap, _∙_, subst}
-use mathlib.Core.Bool.{Bool, false, _||_}
-use mathlib.Core.List.{List, [], _++_}
+use mathlib.Core.Bool.{Bool, false}
+use mathlib.Core.List.{List, _++_}
 use mathlib.Core.Option.{Option, none}
 use Prim.Native.Nat.{ℕ}
-use native.Mathlib.Omega.{arith}
-use lib.ListN.{length}
 use lib.Ieee.{Float}
-use Rattle.loops.specs.Loop.{Run, on, out, turn}
-use Rattle.loops.proofs.Cases.{by-test, never, neither}
-use Rattle.loops.proofs.LoopLaws.{loop-keeps}
+use Rattle.loops.proofs.Cases.{never}
 use Rattle.geom.specs.declared.vec2.Vec2.{Vec2}
 use Rattle.raster.specs.Log.{Stock, st, Ready}
 use Rattle.setup.specs.Place.{freeAt}
@@ -18,10 +14,11 @@ use Rattle.events.specs.Chunk.{Chunk, Job}
 use Rattle.events.specs.Events.{Event, State, state, steps, LegalFrom}
 use Rattle.events.proofs.GrowLaws.{steps-append, legal-append}
 use Rattle.passes.specs.Guide.{blendOf}
-use Rattle.passes.specs.Attempt.{Outcome, att, oc, startBy}
+use Rattle.passes.specs.Attempt.{Outcome, oc, startBy}
 use Rattle.passes.specs.Tried.{jobFor, Measured}
 use Rattle.passes.specs.declared.start.Place.{Place}
-use Rattle.cutting.specs.Tries.{startsOf, startAt, guideOf, Tries, worked, tryEvents, triedEnd, guideAt, tryStep, triesOf}
+use Rattle.cutting.specs.Tries.{startAt, guideOf, Tries, worked, tryEvents, guideAt, tryAt, triesOf}
+use Rattle.cutting.proofs.TriesKeep.{ready-same, keeps-tries}
 use Rattle.cutting.proofs.TryLegal.{TriesLegal, start-legal}
 
 -- what holds of a state with nothing on trial, its stock being k
@@ -56,38 +53,22 @@ module _ (s : Setup) (allowed : Vec2 → Bool) (start : List ℕ) (limit : Float
       }
 
   module _ (pts : List Vec2) (closed : Bool) (pos : Place) (log : List ℕ) (R : Ready (st m log 0)) where
-    -- the loop goes on with nothing on trial, or it is left
-    abbrev Going : Run Tries Tries → Type 0
-    Going (on t) = Tells log (t .outcome) (t .events) × (t .outcome .attempt .worth ≡ false)
-    Going (out t) = Tells log (t .outcome) (t .events)
+    abbrev Claim : Tries → Type 0
+    Claim t = Tells log (t .outcome) (t .events)
 
-    go-step : (k : ℕ) (r : Run Tries Tries) → Going r → Going (turn (tryStep s allowed pts closed pos kept m) k r)
-    unfolding turn tryStep guideAt
-    go-step k (out t) h = h
-    go-step k (on t) h =
+    try-each : (k : ℕ) (t : Tries) → Claim t → t .outcome .attempt .worth ≡ false → Claim (tryAt s allowed pts closed pos kept m k t)
+    unfolding tryAt guideAt
+    try-each k t h w =
         let c : Outcome = t .outcome in
         let walk : List Vec2 = guideOf pts closed (startAt pts closed pos k) in
         let g : Option (List Vec2) = blendOf s allowed (freeAt s m) walk in
         let r : Outcome = startBy s allowed g kept m (c .log) (c .out) in
-        let n = next-legal log c (t .events) (h .0) (h .1) (c .attempt .work) r (tryEvents kept g r)
-        (start-legal s allowed start limit M kept m rows position (c .log) (c .out) (ready-log (c .log) (h .0 .long)) walk g refl) in
-        by-test Going (r .attempt .full || r .attempt .worth) _ _ (λ b. n) (λ b. (n, neither (r .attempt .full) (r .attempt .worth) b .1))
-      where
-        ready-log : (l : List ℕ) → length l ≡ length log → Ready (st m l 0)
-        ready-log l e = record { room = omega (arith, R .room, e); small = R .small }
-
-    go-end : (r : Run Tries Tries) → Going r → Tells log (triedEnd r .outcome) (triedEnd r .events)
-    unfolding triedEnd
-    go-end (on t) h = h .0
-    go-end (out t) h = h
+        next-legal log c (t .events) h w (c .attempt .work) r (tryEvents kept g r)
+        (start-legal s allowed start limit M kept m rows position (c .log) (c .out) (ready-same m log (c .log) R (h .long)) walk g refl)
 
     tries-here : (o : List Float) → let q = triesOf s allowed pts closed pos kept m log o in Tells log (q .outcome) (q .events)
-    unfolding triesOf steps
-    tries-here o =
-        go-end _ (loop-keeps (turn (tryStep s allowed pts closed pos kept m)) 0 Going (startsOf closed) (λ i r b c h. go-step i r h) _ (nothing, refl))
-      where
-        nothing : Tells log (oc log o (att false false 0 0 0)) []
-        nothing = record { legal = tt; long = refl; full = λ h. never h; idle = λ h. refl; trial = λ h. never h }
+    unfolding steps
+    tries-here o = keeps-tries s allowed pts closed pos kept m Claim try-each log o (record { legal = tt; long = refl; full = λ h. never h; idle = λ h. refl; trial = λ h. never h })
 
 -- from any state with the map m, the log's slice `log` and nothing on trial
 pub tries-legal : (s : Setup) (allowed : Vec2 → Bool) (start : List ℕ) (limit : Float) → Measured s → (pts : List Vec2) (closed : Bool) (pos : Place) (kept : ℕ) (m log : List ℕ) (o : List Float) → Ready (st m log 0)

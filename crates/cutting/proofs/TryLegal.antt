@@ -17,6 +17,7 @@ use Rattle.events.specs.Chunk.{Point, Chunk, Job}
 use Rattle.events.specs.Replay.{BeginsGood}
 use Rattle.events.specs.Events.{Event, tried, withdrawn, State, state, step, steps, PassChecked, OnTrial, Checked, LegalFrom}
 use Rattle.events.specs.Read.{pointAt, pointsFrom}
+use Rattle.events.proofs.PassLaws.{first-point}
 use Rattle.passes.specs.Simulate.{Pass, simulateOf}
 use Rattle.passes.specs.Guide.{blendOf}
 use Rattle.passes.specs.Worth.{spotsFrom, worthOf}
@@ -27,13 +28,6 @@ use Rattle.passes.proofs.WorthLaws.{worth-points}
 use Rattle.passes.proofs.TriedLaws.{Tried, tried-step}
 use Rattle.passes.proofs.PieceLaws.{blend-tried, tried-withdrawn}
 use Rattle.cutting.specs.Tries.{tryEvents}
-
--- the first point of those that are read
-pub first-point : (o : List Float) (a n : ℕ) → pointsFrom o a (suc n) ≡ pointAt o a ∷ pointsFrom o (a + 1) n
-first-point o a zero = ap (λ (k : ℕ). pointAt o k ∷ []) (let z : a + 0 ≡ a = omega arith in z)
-first-point o a (suc n) =
-    ap (λ (l : List Point). l ++ (pointAt o (a + suc n) ∷ [])) (first-point o a n)
-    ∙ ap (λ (k : ℕ). pointAt o a ∷ (pointsFrom o (a + 1) n ++ (pointAt o k ∷ []))) (let z : a + suc n ≡ a + 1 + n = omega arith in z)
 
 -- ---- what tries leave
 

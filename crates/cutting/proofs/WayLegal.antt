@@ -20,12 +20,12 @@ use Rattle.events.specs.Replay.{lastOf, BeginsGood}
 use Rattle.events.specs.Events.{kept, State, state, putBackAll, takeAgain, step, steps, PlungeChecked, KeepChecked, LegalFrom}
 use Rattle.events.specs.Read.{spotAt, pointAt, pointsFrom}
 use Rattle.events.proofs.WayLaws.{way-is, no-way-is, WayChecked, way-legal}
+use Rattle.events.proofs.PassLaws.{first-point}
 use Rattle.passes.specs.declared.start.Place.{Place}
 use Rattle.passes.specs.declared.start.Place.the-variants.{At, Nowhere}
 use Rattle.cutting.specs.Way.{routeOf, wayChunks}
 use Rattle.cutting.specs.Piece.{wayEvents}
 use Rattle.cutting.proofs.JudgeLaws.{jobAt, chained-checked, chained-last}
-use Rattle.cutting.proofs.TryLegal.{first-point}
 
 -- where the tool is, as the events have it
 abbrev pub positionOf : Place → Option Vec2

@@ -62,12 +62,15 @@ module _ (s : Setup) (allowed : Vec2 → Bool) (pts : List Vec2) (closed : Bool)
   unfoldable pub guideAt : ℕ → Option (List Vec2)
   guideAt k = blendOf s allowed (freeAt s m) (guideOf pts closed (startAt pts closed pos k))
 
-  unfoldable pub tryStep : ℕ → Tries → Run Tries Tries
-  tryStep k t =
+  -- the try from start k, after the others
+  unfoldable pub tryAt : ℕ → Tries → Tries
+  tryAt k t =
       let c = t .outcome in
       let r = startBy s allowed (guideAt k) kept m (c .log) (c .out) in
-      let t′ = ts (oc (r .log) (r .out) (worked (c .attempt .work) (r .attempt))) (t .events ++ tryEvents kept (guideAt k) r) in
-      cond (r .attempt .full || r .attempt .worth) (out t′) (on t′)
+      ts (oc (r .log) (r .out) (worked (c .attempt .work) (r .attempt))) (t .events ++ tryEvents kept (guideAt k) r)
+
+  unfoldable pub tryStep : ℕ → Tries → Run Tries Tries
+  tryStep k t = let a = tryAt k t .outcome .attempt in cond (a .full || a .worth) (out (tryAt k t)) (on (tryAt k t))
 
   unfoldable pub triesOf : List ℕ → List Float → Tries
   triesOf l o = triedEnd (loop (turn tryStep) 0 (startsOf closed) (on (ts (oc l o (att false false 0 0 0)) [])))

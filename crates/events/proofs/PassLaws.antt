@@ -3,6 +3,7 @@ use mathlib.Core.Path.{_≡_, refl, sym, ap, _∙_, subst}
 use Prim.Native.Nat.{ℕ, zero, suc, _+_, _-_}
 use native.Mathlib.Omega.{arith}
 use mathlib.Core.List.{List, [], _∷_, _++_}
+use lib.ListN.{length, length-append}
 use lib.Ieee.{Float}
 use Rattle.loops.specs.Loop.{turns, loop}
 use Rattle.loops.proofs.LoopLaws.{loop-keeps, Going}
@@ -49,6 +50,17 @@ pub going-pass : (g : Grid) (r : Float) (ts : List Float) (first a e : ℕ) (s t
 unfolding crescentBy
 going-pass g r ts first a e s t k h i =
     subst (Kept s) (sym (i .is)) (loop-keeps (crescentBy g r ts first) a (Kept s) k (λ n u b c x. keep-after (Kept s) (kept-cell s h) g _ _ r u x) s (kept-none s))
+
+pub points-long : (ts : List Float) (first n : ℕ) → length (pointsFrom ts first n) ≡ n
+points-long ts first zero = refl
+points-long ts first (suc n) = let i = points-long ts first n in omega (arith, length-append (pointsFrom ts first n) (pointAt ts (first + n) ∷ []))
+
+-- the first point of those that are read
+pub first-point : (o : List Float) (a n : ℕ) → pointsFrom o a (suc n) ≡ pointAt o a ∷ pointsFrom o (a + 1) n
+first-point o a zero = ap (λ (k : ℕ). pointAt o k ∷ []) (let z : a + 0 ≡ a = omega arith in z)
+first-point o a (suc n) =
+    ap (λ (l : List Point). l ++ (pointAt o (a + suc n) ∷ [])) (first-point o a n)
+    ∙ ap (λ (k : ℕ). pointAt o a ∷ (pointsFrom o (a + 1) n ++ (pointAt o k ∷ []))) (let z : a + suc n ≡ a + 1 + n = omega arith in z)
 
 module _ (j : Job) (ts : List Float) (first : ℕ) where
   last-from : (n : ℕ) → lastAt (spotAt ts first) (pointsFrom ts (first + 1) n) ≡ spotAt ts (first + (1 + n) - 1)

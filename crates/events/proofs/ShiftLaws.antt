@@ -7,7 +7,7 @@ use lib.ListN.{length, take, drop, getD, set, length-set, length-take, take-appe
 use lib.Seq.{drop-cons, take-set-le, drop-set-lt, take-take, getD-take, getD-set-same, drop-drop, take-append-le, drop-at}
 use lib.Ieee.{Float, nan}
 use Rattle.loops.specs.Loop.{turns, loop}
-use Rattle.events.specs.Lent.{Triple, flatTriples, set3, setTriple, gapTriples, shiftUp, putAll}
+use Rattle.events.specs.Lent.{Triple, flatTriples, set3, setTriple, gapTriples, shiftUp, putFrom, putAll}
 use Rattle.events.proofs.LentLaws.{take-set3, take-drop}
 
 -- turn i moves the number at low + n - 1 - i
@@ -80,7 +80,7 @@ pub set3-long : {A : Type 0} (l : List A) (i : ℕ) (a b c : A) → length (set3
 set3-long l i a b c = length-set (set (set l i a) (i + 1) b) (i + 2) c ∙ length-set (set l i a) (i + 1) b ∙ length-set l i a
 
 put-all : (ts : List Triple) (k : ℕ) (l : List Float) → (k + length ts) * 3 ≤ length l → putAll k ts l ≡ take (k * 3) l ++ (flatTriples ts ++ drop ((k + length ts) * 3) l)
-unfolding putAll flatTriples
+unfolding putFrom flatTriples
 put-all [] k l h = sym (ap (λ (n : ℕ). take (k * 3) l ++ drop n l) (let z : (k + 0) * 3 ≡ k * 3 = omega arith in z) ∙ take-append-drop (k * 3) l)
 put-all (t ∷ ts) k l h =
     put-all ts (k + 1) (setTriple k t l) (omega (arith, set3-long l (k * 3) (t .x) (t .y) (t .value)))

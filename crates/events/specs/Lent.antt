@@ -146,12 +146,13 @@ gapTriples k n new l = take (k * 3) l ++ (flatTriples new ++ (take (n * 3) (drop
 unfoldable pub shiftUp : ℕ → ℕ → ℕ → List Float → List Float
 shiftUp low n d l = take (low + d) l ++ (drop low (take (low + n) l) ++ drop (low + n + d) l)
 
--- triples put one after another, from number k on
-unfoldable pub putAll : ℕ → List Triple → List Float → List Float
-putAll k [] l = l
-putAll k (t ∷ ts) l = putAll (k + 1) ts (setTriple k t l)
+-- rows or triples put one after another, from number k on
+unfoldable pub putFrom : {T E : Type 0} → (ℕ → T → List E → List E) → ℕ → List T → List E → List E
+putFrom f k [] l = l
+putFrom f k (t ∷ ts) l = putFrom f (k + 1) ts (f k t l)
 
--- rows put one after another, from number n on
-unfoldable pub putRows : ℕ → List Row → List ℕ → List ℕ
-putRows n [] l = l
-putRows n (r ∷ rs) l = putRows (n + 1) rs (setRow n r l)
+abbrev pub putAll : ℕ → List Triple → List Float → List Float
+putAll k ts l = putFrom setTriple k ts l
+
+abbrev pub putRows : ℕ → List Row → List ℕ → List ℕ
+putRows k rs l = putFrom setRow k rs l
