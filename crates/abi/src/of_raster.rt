@@ -5,7 +5,7 @@ ghost use Prim.Native.Nat.{_+_, _*_, _≤_, _<_};
 ghost use lib.ListN.{length};
 ghost use Rattle.loops.specs.Cells.{ones};
 ghost use Rattle.geom.specs.Vec.{v2};
-ghost use Rattle.raster.specs.Grid.{Over, centerOf, cellOf, stockAt};
+ghost use Rattle.raster.specs.Grid.{Over, newGrid, centerOf, cellOf, stockAt};
 ghost use Rattle.raster.specs.Disk.{diskRow};
 ghost use Rattle.raster.specs.Stock.{cl, clearDisk, countDisk, intersection};
 ghost use Rattle.raster.specs.Log.{st, Ready, Logged, clearAfter, undone, redone};
@@ -13,12 +13,47 @@ ghost use Rattle.raster.specs.Contact.{samplesOf, engagementOf, Rim, rimmed};
 ghost use Rattle.raster.specs.Fill.{fillRegion};
 ghost use Rattle.geom.specs.Region.{Held, vertexCount};
 ghost use Rattle.abi.specs.Geom.{region, put2};
-ghost use Rattle.abi.specs.Raster.{grid, packedCell, packedSpan};
+ghost use Rattle.abi.specs.Raster.{grid, packedGrid, cornerPut, packedCell, packedSpan};
 use geom::region::Region;
 use geom::vec2::Vec2;
 use raster::disk::Span;
 use raster::grid::Found;
 use raster::grid::Grid;
+use raster::grid::Raster;
+
+// The grid over two corners: its sides, and its own corner written to `out`; or document 01's refusal.
+#[no_mangle]
+pub extern "C" fn raster_new(
+    lx: f64,
+    ly: f64,
+    hx: f64,
+    hy: f64,
+    cell: f64,
+    margin: f64,
+    out: &mut [f64],
+) -> u64
+    requires { ⌜ 2 ≤ length (now out) ⌝ }
+    ensures { λ r. ⌜ r ≡ packedGrid (newGrid (v2 lx ly) (v2 hx hy) cell margin) ⌝ }
+    ensures { λ _. ⌜ now (out .exit) ≡ cornerPut (newGrid (v2 lx ly) (v2 hx hy) cell margin) (now (out .entry)) ⌝ }
+{
+    let lo = Vec2 { x: lx, y: ly };
+    let hi = Vec2 { x: hx, y: hy };
+    let r = raster::grid::new(lo, hi, cell, margin);
+    let Raster::Of(g) = r else {
+        return raster::grid::refusal_of(r) as u64;
+    };
+    let corner = g.origin;
+    super::of_geom::put(corner, out);
+    sides(g.nx, g.ny)
+}
+
+fn sides(nx: usize, ny: usize) -> u64
+    requires { ⌜ nx ≤ 4096 ⌝ }
+    requires { ⌜ ny ≤ 4096 ⌝ }
+    ensures { λ r. ⌜ r ≡ ny * 0x1_0000_0000 + nx ⌝ }
+{
+    (ny as u64) * 0x1_0000_0000 + (nx as u64)
+}
 
 // The cell at a point, or u64::MAX.
 #[no_mangle]

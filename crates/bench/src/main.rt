@@ -1,5 +1,6 @@
-// Document 01's bench: its lines on standard input, its answers on standard output. The input is read in
-// parts, and no line is kept, so that its length does not matter.
+// Document 01's bench: its lines on standard input, its answers on standard output. The input is read as it
+// comes, so that a line is answered when it has been read, and no line is kept, so that its length does not
+// matter.
 ghost use Rattle.bench_lines.specs.Obey.{Fit};
 use bench_talk::Talk;
 use libc::STDIN_FILENO;
@@ -9,17 +10,18 @@ struct Part {
     more: bool,
 }
 
-// Reads once. Keeping the loop out of it keeps the buffer out of the loop's proof.
+// Reads what there is. Keeping the loop out of it keeps the buffer out of the loop's proof.
 fn some(t: Talk, map: &mut [u8], log: &mut [u32]) -> Part
     requires { ⌜ Fit (t .bench) (now map) (now log) ⌝ }
     ensures { λ p. ⌜ Fit (p .talk .bench) (now (map .exit)) (now (log .exit)) ⌝ }
 {
     let mut read = io::buffer();
-    let n = io::read_full(STDIN_FILENO, &mut read);
+    let got = libc::read(STDIN_FILENO, &mut read);
+    let n = io::count(got, &read);
     let next = bench_talk::bytes(&read[..n], t, map, log);
     Part {
         talk: next,
-        more: (n == 4096) & !next.ended,
+        more: (0 < n) & !next.ended,
     }
 }
 

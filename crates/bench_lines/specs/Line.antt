@@ -2,9 +2,8 @@
 use Prim.Native.Nat.{ℕ, _≤_, _<_}
 use mathlib.Core.Bool.{Bool, true, false, cond, not}
 use mathlib.Core.List.{List}
-use lib.ListN.{length, getD}
 use lib.Dec.{eqb, ltb, leb}
-use Rattle.loops.specs.Loop.{loop}
+use Rattle.loops.specs.Each.{over}
 use Rattle.bench_lines.specs.Words.{noWords, stepOf}
 use Rattle.bench_lines.specs.declared.words.Words.{Words}
 use Rattle.bench_lines.specs.declared.line.Line.{Line}
@@ -31,11 +30,9 @@ wordOf w = cond (eqb (w .word) 0x6d6170) (mapOf w) (cond (eqb (w .word) 0x706173
 unfoldable pub lineOf : Words → Line
 lineOf w = cond (w .bad) Bad (cond (w .empty) Bad (wordOf w))
 
-abbrev pub stepAt : List ℕ → ℕ → Words → Words
-stepAt l k w = stepOf (getD l k 0) w
-
-unfoldable pub parsed : List ℕ → Line
-parsed l = lineOf (loop (stepAt l) 0 (length l) noWords)
+-- the bytes of a line, read one by one
+unfoldable pub wordsOf : List ℕ → Words
+wordsOf l = over stepOf l noWords
 
 pub record Side (n : ℕ) : Type 0 where
   pub some : 0 < n

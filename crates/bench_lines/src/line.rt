@@ -1,9 +1,7 @@
 // A line: `map` and two sides, `pass` and five numbers, `undo`, or a bad one.
 ghost use mathlib.Core.Path.{_≡_};
-ghost use Rattle.bench_lines.specs.Line.{sideOf, mapOf, passOf, undoOf, wordOf, lineOf, parsed, Sound};
+ghost use Rattle.bench_lines.specs.Line.{sideOf, mapOf, passOf, undoOf, wordOf, lineOf};
 use super::words::Words;
-use super::words::begin;
-use super::words::step;
 
 pub enum Line {
     // Columns and rows.
@@ -81,15 +79,4 @@ pub fn finish(w: Words) -> Line
         return Line::Bad;
     }
     by_word(w)
-}
-
-// A whole line, without its line feed.
-pub fn parse(line: &[u8]) -> Line
-    ensures { λ r. ⌜ r ≡ parsed (now (line .entry)) ⌝ }
-{
-    let mut w = begin();
-    for k in 0..line.len() {
-        w = step(w, line[k]);
-    }
-    finish(w)
 }

@@ -1,9 +1,12 @@
 // The bench's answers on standard output, for the bytes of its input as they come.
 ghost use mathlib.Core.Path.{_≡_};
+ghost use mathlib.Core.List.{List};
+ghost use Prim.Native.Nat.{ℕ};
 ghost use Rattle.bench_lines.specs.Obey.{Fit, noMap};
+ghost use Rattle.bench_lines.specs.Reader.{Heard, silent, isWrong, lineHeard, byteHeard, heardOf, endHeard};
+ghost use Rattle.bench_talk.specs.Hears.{Hears};
 use bench_lines::obey::Answer;
 use bench_lines::obey::Bench;
-use bench_lines::reader::is_begun;
 use bench_lines::reader::line_end;
 use bench_lines::words::Words;
 use bench_lines::words::begin;
@@ -13,6 +16,8 @@ use libc::STDOUT_FILENO;
 pub struct Talk {
     pub bench: Bench,
     pub words: Words,
+    // There is a byte of the present line.
+    pub begun: bool,
     // The present line's number, from 1.
     pub number: u64,
     // A bad line has been named.
@@ -21,10 +26,12 @@ pub struct Talk {
 
 pub fn start() -> Talk
     ensures { λ t. ⌜ t .bench ≡ noMap ⌝ }
+    ensures { λ t. ⌜ ((m l : List ℕ) → Hears t m l (silent m l)) ⌝ }
 {
     Talk {
         bench: bench_lines::obey::start(),
         words: begin(),
+        begun: false,
         number: 1,
         ended: false,
     }
@@ -59,17 +66,22 @@ fn say(a: Answer, line: u64) {
     io::write_all(STDOUT_FILENO, b"\n");
 }
 
-fn is_wrong(a: Answer) -> bool {
+fn is_wrong(a: Answer) -> bool
+    ensures { λ b. ⌜ b ≡ isWrong a ⌝ }
+{
     match a {
+        Answer::Started(_) => false,
+        Answer::Removed(_, _) => false,
+        Answer::Restored(_) => false,
         Answer::Wrong => true,
-        _ => false,
     }
 }
 
 // The line ends here.
-pub fn line(t: Talk, map: &mut [u8], log: &mut [u32]) -> Talk
+fn line(t: Talk, map: &mut [u8], log: &mut [u32]) -> Talk
     requires { ⌜ Fit (t .bench) (now map) (now log) ⌝ }
     ensures { λ r. ⌜ Fit (r .bench) (now (map .exit)) (now (log .exit)) ⌝ }
+    ensures { λ r. ⌜ ((h : Heard) → Hears t (now (map .entry)) (now (log .entry)) h → Hears r (now (map .exit)) (now (log .exit)) (lineHeard h)) ⌝ }
 {
     let b = t.bench;
     let w = t.words;
@@ -80,6 +92,7 @@ pub fn line(t: Talk, map: &mut [u8], log: &mut [u32]) -> Talk
     Talk {
         bench: after,
         words: begin(),
+        begun: false,
         number: std::num::wrapping_add_u64(t.number, 1),
         ended: is_wrong(answer),
     }
@@ -89,6 +102,7 @@ pub fn line(t: Talk, map: &mut [u8], log: &mut [u32]) -> Talk
 pub fn byte(t: Talk, c: u8, map: &mut [u8], log: &mut [u32]) -> Talk
     requires { ⌜ Fit (t .bench) (now map) (now log) ⌝ }
     ensures { λ r. ⌜ Fit (r .bench) (now (map .exit)) (now (log .exit)) ⌝ }
+    ensures { λ r. ⌜ ((h : Heard) → Hears t (now (map .entry)) (now (log .entry)) h → Hears r (now (map .exit)) (now (log .exit)) (byteHeard c h)) ⌝ }
 {
     if t.ended {
         return t;
@@ -101,6 +115,7 @@ pub fn byte(t: Talk, c: u8, map: &mut [u8], log: &mut [u32]) -> Talk
     Talk {
         bench: b,
         words: step(w, c),
+        begun: true,
         number: t.number,
         ended: false,
     }
@@ -109,6 +124,7 @@ pub fn byte(t: Talk, c: u8, map: &mut [u8], log: &mut [u32]) -> Talk
 pub fn bytes(read: &[u8], start: Talk, map: &mut [u8], log: &mut [u32]) -> Talk
     requires { ⌜ Fit (start .bench) (now map) (now log) ⌝ }
     ensures { λ r. ⌜ Fit (r .bench) (now (map .exit)) (now (log .exit)) ⌝ }
+    ensures { λ r. ⌜ ((h : Heard) → Hears start (now (map .entry)) (now (log .entry)) h → Hears r (now (map .exit)) (now (log .exit)) (heardOf (now (read .entry)) h)) ⌝ }
 {
     let mut t = start;
     for i in 0..read.len() {
@@ -118,14 +134,15 @@ pub fn bytes(read: &[u8], start: Talk, map: &mut [u8], log: &mut [u32]) -> Talk
 }
 
 // The input ends here: what is left is a line where it has begun.
-pub fn finish(t: Talk, map: &mut [u8], log: &mut [u32])
+pub fn finish(t: Talk, map: &mut [u8], log: &mut [u32]) -> Talk
     requires { ⌜ Fit (t .bench) (now map) (now log) ⌝ }
+    ensures { λ r. ⌜ ((h : Heard) → Hears t (now (map .entry)) (now (log .entry)) h → Hears r (now (map .exit)) (now (log .exit)) (endHeard h)) ⌝ }
 {
     if t.ended {
-        return;
+        return t;
     }
-    let w = t.words;
-    if is_begun(w) {
-        line(t, map, log);
+    if t.begun {
+        return line(t, map, log);
     }
+    t
 }

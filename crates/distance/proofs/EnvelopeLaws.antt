@@ -16,9 +16,6 @@ module _ (h : ℕ → ℕ) where
   pub over-later : (x y p q : ℕ) → x ≤ y → p ≤ q → Over h x p q → Over h y p q
   over-later x y p q a b o = omega (arith, cross x y p q a b)
 
-  pub under-earlier : (x y p q : ℕ) → x ≤ y → p ≤ q → Under h y p q → Under h x p q
-  under-earlier x y p q a b u = omega (arith, cross x y p q a b)
-
   -- where the two change places
   unfoldable pub meet : ℕ → ℕ → ℕ
   meet p q = (h q - h p) / (2 * (q - p)) + 1

@@ -1,16 +1,16 @@
 -- The roots of a list of squares. Assumes nothing.
-use mathlib.Core.Path.{_≡_, refl, sym, ap, _∙_, subst}
+use mathlib.Core.Path.{_≡_, refl, sym, _∙_, subst}
 use mathlib.Core.Logic.{⊎-elim}
 use mathlib.Core.List.{List}
-use Prim.Native.Nat.{ℕ, _+_, _*_, _≤_, _<_}
+use Prim.Native.Nat.{ℕ, _+_, _≤_, _<_}
 use native.Mathlib.Omega.{arith}
 use lib.ListN.{length, getD, set, drop, length-drop}
 use lib.Seq.{getD-set-same, getD-set-other, getD-drop}
 use lib.Ieee.{Float, nan}
-use Rattle.distance.specs.Rooted.{distanceOf, distancesOf, distanceTransform}
-use Rattle.distance.specs.Nearest.{listed, transformOf}
+use Rattle.distance.specs.Rooted.{distanceOf, distancesOf}
+use Rattle.distance.specs.Nearest.{listed}
 use Rattle.distance.proofs.NumberLaws.{lt-or-le}
-use Rattle.distance.proofs.NearestLaws.{listed-long, listed-at, transform-at, two-parts}
+use Rattle.distance.proofs.NearestLaws.{listed-long, listed-at, two-parts}
 
 -- the first n numbers of t are the distances of the squares of q, and the rest of s is kept
 pub record Rooted (n : ℕ) (q : List ℕ) (s t : List Float) : Type 0 where
@@ -39,8 +39,3 @@ distances-are n q s t long same r = two-parts nan t (listed n (λ k. distanceOf 
     (simp length-drop (omega (arith, listed-long (λ k. distanceOf (getD q k 0)) nan n)))
     (λ k h. let b : k < n = omega (arith, listed-long (λ k. distanceOf (getD q k 0)) nan n) in r .root k b ∙ sym (listed-at (λ k. distanceOf (getD q k 0)) nan n k b))
     (λ k h. rw (listed-long (λ k. distanceOf (getD q k 0)) nan n) (r .rest (n + k) (omega arith) ∙ sym (getD-drop n s k nan)))
-
--- a distance, from the square that `transform` leaves
-pub distance-at : (mark : ℕ) (m : List ℕ) (nx ny : ℕ) (s : List ℕ) (k : ℕ) → k < ny * nx → getD (distanceTransform mark m nx ny) k nan ≡ distanceOf (getD (transformOf mark m nx ny s) k 0)
-unfolding distanceTransform
-distance-at mark m nx ny s k h = listed-at _ nan (ny * nx) k h ∙ ap distanceOf (sym (transform-at mark m nx ny s k h))

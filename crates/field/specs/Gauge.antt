@@ -11,7 +11,7 @@ use Rattle.raster.specs.Contact.{tau, samplesOf, Rim}
 use Rattle.setup.specs.declared.Setup.{Setup}
 use Rattle.field.specs.declared.gauge.Test.{Test}
 use Rattle.field.specs.declared.gauge.Gauge.{Gauge}
-use Prim.Native.Nat.{ℕ, _-_, _*_, _≤_}
+use Prim.Native.Nat.{ℕ, _*_, _≤_}
 use Rattle.raster.specs.Grid.{Over}
 use Rattle.field.specs.Field.{highOf, lowOf, reachOf}
 

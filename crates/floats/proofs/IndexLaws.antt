@@ -1,6 +1,6 @@
 -- A float test against a whole number gives an index: a float below n, cut to an unsigned integer, is below n. And the cut keeps the order.
 -- Assumes nothing.
-use mathlib.Core.Path.{_≡_, refl, sym, ap, _∙_, subst}
+use mathlib.Core.Path.{_≡_, refl, sym, ap, _∙_}
 use mathlib.Core.Bool.{Bool, true, false}
 use Prim.Native.Nat.{ℕ, _-_, _*_, _/_, _^_, _≤_, _<_, zero-le, min}
 use native.Mathlib.Nat.{le-of-eq, lt-of-lt-of-le, mul-one, mul-right-comm, mul-le-mul-right, zero-div, lt-of-mul-lt-mul-right, div-lt-iff-lt-mul, zero-lt-suc}
@@ -92,14 +92,6 @@ cut-mono w (fin false m e) (fin false n d) h =
 pub cut-whole : (f : Format) (w n : ℕ) → n ≤ 2 ^ prec f → n < 2 ^ w → toUnsigned w (ofInt f (pos n)) ≡ n
 unfolding inFloat
 cut-whole f w n h k = unsigned-back f w n (le→leb n (2 ^ prec f) h) k .1
-
--- so a float that is at most n gives at most n
-pub index-le : (f : Format) (w n : ℕ) (x : Float) → n ≤ 2 ^ prec f → n < 2 ^ w → le x (ofInt f (pos n)) ≡ true → toUnsigned w x ≤ n
-index-le f w n x h k l = subst (λ (z : ℕ). toUnsigned w x ≤ z) (cut-whole f w n h k) (cut-mono w x (ofInt f (pos n)) l)
-
--- and one that is at least n gives at least n
-pub index-ge : (f : Format) (w n : ℕ) (x : Float) → n ≤ 2 ^ prec f → n < 2 ^ w → le (ofInt f (pos n)) x ≡ true → n ≤ toUnsigned w x
-index-ge f w n x h k l = subst (λ (z : ℕ). z ≤ toUnsigned w x) (cut-whole f w n h k) (cut-mono w (ofInt f (pos n)) x l)
 
 -- whole numbers as floats are in their order, however large
 pub whole-mono : (f : Format) (m n : ℕ) → m ≤ n → le (ofInt f (pos m)) (ofInt f (pos n)) ≡ true

@@ -13,7 +13,6 @@ use lib.Ieee.Fits.{up-pos, down-pos}
 use Rattle.loops.proofs.Cases.{never}
 use Rattle.floats.proofs.OrderLaws.{Le, le-of, zero-of}
 use Rattle.floats.proofs.SignLaws.{unsigned, no-nan, under-top, over-bottom, neg-neg, neg-number, neg-le, round-neg}
-use Rattle.floats.proofs.SwapLaws.{mul-swap}
 use Rattle.floats.proofs.RoundMono.{round-zero, round-le}
 
 -- ---- ±X / E ≤ ±Y / E', with both multiplied by a / c
@@ -188,11 +187,3 @@ module _ (f : Format) where
     | inl u ↦ mul-down f x y z u h p q
     | inr e ↦ subst (λ (v : Float). isNan (mul f y v) ≡ false → isNan (mul f x v) ≡ false → le (mul f y v) (mul f x v) ≡ true) (sym (e .1)) (mul-zeros f y x false (e .0)) q p
   ]
-
-  pub mul-mono-right : (z x y : Float) → le (fin false 0 (pos 0)) z ≡ true → le x y ≡ true → isNan (mul f z x) ≡ false → isNan (mul f z y) ≡ false → le (mul f z x) (mul f z y) ≡ true
-  mul-mono-right z x y Z h p q =
-      rw (mul-swap f z x, mul-swap f z y) (mul-mono x y z Z h (subst (λ (v : Float). isNan v ≡ false) (mul-swap f z x) p) (subst (λ (v : Float). isNan v ≡ false) (mul-swap f z y) q))
-
-  pub mul-anti-right : (z x y : Float) → le z (fin false 0 (pos 0)) ≡ true → le x y ≡ true → isNan (mul f z x) ≡ false → isNan (mul f z y) ≡ false → le (mul f z y) (mul f z x) ≡ true
-  mul-anti-right z x y Z h p q =
-      rw (mul-swap f z x, mul-swap f z y) (mul-anti x y z Z h (subst (λ (v : Float). isNan v ≡ false) (mul-swap f z x) p) (subst (λ (v : Float). isNan v ≡ false) (mul-swap f z y) q))

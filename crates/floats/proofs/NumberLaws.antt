@@ -3,7 +3,7 @@ use mathlib.Core.Path.{_≡_, refl, sym, ap, _∙_, subst}
 use mathlib.Core.Bool.{Bool, true, false, _&&_, Bool·beq, cond}
 use Prim.Native.Nat.{ℕ, zero, suc, _+_, _-_, _*_}
 use lib.Dec.{T, ltb, eqb, eqb·suc-zero}
-use lib.Ieee.{Float, nan, inf, fin, Format, up, down, unlike, round, sum, add, sub, mul, div, neg, isNan}
+use lib.Ieee.{Float, nan, inf, fin, Format, up, down, unlike, round, sum, add, mul, div, neg, isNan}
 use lib.Ieee.Scale.{finite}
 use lib.Ieee.Positive.{positive}
 use Rattle.loops.proofs.Cases.{by-test}
@@ -32,10 +32,6 @@ unfolding neg
 neg-finite nan a = a
 neg-finite (inf s) a = a
 neg-finite (fin s m e) a = tt
-
-pub sub-number : (f : Format) (x y : Float) → T (finite x) → T (finite y) → isNan (sub f x y) ≡ false
-unfolding sub
-sub-number f x y a b = add-number f x (neg y) a (neg-finite y b)
 
 pub mul-number : (f : Format) (x y : Float) → T (finite x) → T (finite y) → isNan (mul f x y) ≡ false
 unfolding mul

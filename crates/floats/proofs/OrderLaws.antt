@@ -285,14 +285,7 @@ lt-le x y z h k =
     (λ e. absurd (true≢false (sym (le-lt z x y e h) ∙ le-not-lt y z k)))
     (λ e. not-le-lt x z (lt-numbers x y h .0) (le-numbers y z k .1) e)
 
-pub lt-lt : (x y z : Float) → lt x y ≡ true → lt y z ≡ true → lt x z ≡ true
-lt-lt x y z h k = lt-le x y z h (lt-to-le y z k)
-
 -- -0 and 0 are equal and not the same, so this is `eq`
 pub le-antisym : (x y : Float) → le x y ≡ true → le y x ≡ true → eq x y ≡ true
 unfolding le
 le-antisym x y h k = either (lt x y) (eq x y) h (λ e. absurd (true≢false (sym e ∙ le-not-lt y x k))) (λ e. e)
-
-pub eq-to-le : (x y : Float) → eq x y ≡ true → le x y ≡ true
-unfolding le
-eq-to-le x y h = by-cases (lt x y) (λ e. rw e) (λ e. rw (e, h))

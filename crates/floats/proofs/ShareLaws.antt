@@ -1,5 +1,5 @@
 -- A share of a number: c * x is at most x for a c up to 1, and below it where c is up to 1 - 2 ^ (1 - prec) and x is normal.
--- Either order of the factors. Then the shares that are cited: 0.85, 0.95 and a half. Assumes nothing.
+-- Either order of the factors. Assumes nothing.
 use mathlib.Core.Path.{_≡_, refl, sym, ap, _∙_, subst}
 use mathlib.Core.Logic.{inl, inr}
 use mathlib.Core.Bool.{true, false}
@@ -8,7 +8,7 @@ use native.Mathlib.Nat.{le-trans, le-of-eq, le-of-lt, lt-of-lt-of-le, lt-irrefl,
 use native.Mathlib.Omega.{arith}
 use native.Mathlib.Decide.{decLt}
 use lib.IntN.{ℤ, pos, negsuc}
-use lib.Dec.{T, ltb→lt, lit≤}
+use lib.Dec.{T, ltb→lt}
 use lib.Pow.{pow-add, pow-pos}
 use lib.Ieee.{Float, nan, inf, fin, Format, binary32, binary64, prec, emax, low, hid, up, down, size, round, mul, lt, eq, le, fits, ofBits}
 use lib.Ieee.Digits.{size-reaches}
@@ -194,55 +194,3 @@ module _ (x : Float) where
   unfolding ofBits
   normal-positive binary32 h k = finite-above x (above-of-le (ofBits binary32 (2 ^ 23)) x tt (subst T (sym h) tt)) k
   normal-positive binary64 h k = finite-above x (above-of-le (ofBits binary64 (2 ^ 52)) x tt (subst T (sym h) tt)) k
-
--- ---- the shares that are cited, as the bits have them
-
-abbrev pub c85 : Float
-c85 = ofBits binary64 0x3feb333333333333
-
-abbrev pub c95 : Float
-c95 = ofBits binary64 0x3fee666666666666
-
-abbrev pub c50 : Float
-c50 = ofBits binary64 0x3fe0000000000000
-
-module _ (x : Float) (X : T (unsigned x)) (F : T (fits binary64 x)) where
-  pub le-85 : le (mul binary64 c85 x) x ≡ true
-  unfolding ofBits
-  le-85 = share-le binary64 c85 x tt (lit≤ tt) F X
-
-  pub le-85-right : le (mul binary64 x c85) x ≡ true
-  unfolding ofBits
-  le-85-right = share-le-right binary64 c85 x tt (lit≤ tt) F X
-
-module _ (x : Float) (X : T (positive x)) (F : T (fits binary64 x)) (N : Normal binary64 x) where
-  pub lt-85 : lt (mul binary64 c85 x) x ≡ true
-  unfolding ofBits
-  lt-85 = share-lt binary64 c85 tt (lit≤ tt) x X F N
-
-  pub lt-85-right : lt (mul binary64 x c85) x ≡ true
-  unfolding ofBits
-  lt-85-right = share-lt-right binary64 c85 tt (lit≤ tt) x X F N
-
-  pub lt-95 : lt (mul binary64 c95 x) x ≡ true
-  unfolding ofBits
-  lt-95 = share-lt binary64 c95 tt (lit≤ tt) x X F N
-
-  pub lt-95-right : lt (mul binary64 x c95) x ≡ true
-  unfolding ofBits
-  lt-95-right = share-lt-right binary64 c95 tt (lit≤ tt) x X F N
-
-  pub lt-half : lt (mul binary64 c50 x) x ≡ true
-  unfolding ofBits
-  lt-half = share-lt binary64 c50 tt (lit≤ tt) x X F N
-
-  pub lt-half-right : lt (mul binary64 x c50) x ≡ true
-  unfolding ofBits
-  lt-half-right = share-lt-right binary64 c50 tt (lit≤ tt) x X F N
-
-  pub half-above : lt (fin false 0 (pos 0)) (mul binary64 c50 x) ≡ true
-  unfolding ofBits
-  half-above = share-above binary64 c50 x tt X (doubled (den x) (num x * 2 ^ 1074) (1 * 1 * num x * 2 ^ 1074) N (ap (λ (z : ℕ). z * 2 ^ 1074) (one-mul (num x))))
-    where
-      doubled : (d n k : ℕ) → 4503599627370496 * d ≤ n → k ≡ n → 2 * d ≤ k
-      doubled d n k h e = omega arith

@@ -1,9 +1,8 @@
 -- A sum of squares is not below 0, or it is a NaN. Assumes nothing.
 use mathlib.Core.Path.{_≡_, refl}
-use mathlib.Core.Bool.{Bool, true, false, true≢false}
+use mathlib.Core.Bool.{true, false, true≢false}
 use lib.Dec.{T}
-use lib.Ieee.{Float, nan, inf, fin, Format, up, down, add, mul, sum, isNan}
-use Prim.Native.Nat.{_+_, _*_}
+use lib.Ieee.{Float, nan, inf, fin, Format, add, mul, sum, isNan}
 use Rattle.floats.proofs.SignLaws.{unsigned, round-unsigned}
 
 pub square-unsigned : (f : Format) (x : Float) → isNan (mul f x x) ≡ false → T (unsigned (mul f x x))

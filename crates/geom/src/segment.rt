@@ -2,7 +2,6 @@
 ghost use mathlib.Core.Path.{_≡_};
 ghost use Prim.Native.Nat.{_+_, _*_, _≤_, _<_};
 ghost use lib.ListN.{length};
-ghost use lib.Ieee.{lt};
 ghost use Rattle.numbers.specs.Bound.{Bounds};
 ghost use Rattle.geom.specs.Region.{Held};
 ghost use Rattle.geom.specs.Segment.{along, segSquare, segDistance, edgeWithin, loopWithin, anyWithin};

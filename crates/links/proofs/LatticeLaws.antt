@@ -14,7 +14,7 @@ use borrow.Author.Tests.{lt-ltb, le-ltb, ltb-false, leb-true, ne-eqb}
 use Rattle.loops.proofs.Cases.{by-test, both, never, neither}
 use Rattle.numbers.specs.Whole.{above, roundOf}
 use Rattle.numbers.specs.Order.{maxOf}
-use Rattle.numbers.proofs.GuardLaws.{max-ge-right}
+use Rattle.numbers.proofs.MaxLaws.{max-ge-right}
 use Rattle.numbers.specs.Small.{f1}
 use Rattle.geom.specs.declared.vec2.Vec2.{Vec2}
 use Rattle.distance.specs.Limits.{lengthOf, LimitOf}

@@ -19,10 +19,6 @@ module _ {A : Type 0} (a e : ℕ) (w : List A) (h : Fits a e w) where
   pub put-long : (r : List A) → length r ≡ length (take (e - a) (drop a w)) → length (putMid a (e - a) w r) ≡ length w
   put-long r d = same-len-mid a (e - a) w r d
 
--- a later part fits once an earlier one is back
-pub still-fits : {A : Type 0} (a e b f : ℕ) (w r : List A) → length r ≡ length (take (e - a) (drop a w)) → Fits a e w → Fits b f w → Fits b f (putMid a (e - a) w r)
-still-fits a e b f w r d h k = record { start = k .start; end = omega (arith, put-long a e w h r d, k .end) }
-
 -- ---- a region is read back after it was put, and any other is as it was
 
 module _ {A : Type 0} (a e : ℕ) (w r : List A) (h : Fits a e w) (l : length r ≡ e - a) where

@@ -13,7 +13,7 @@ use lib.Ieee.Fits.{down-pos}
 use lib.Ieee.Nearest.{div-same}
 use lib.Ieee.Positive.{num, den, positive, den-pos, first-pos, le→cross, cross→le, above-of-le}
 use borrow.Author.Tests.{lt-ltb, ltb-true, ltb-false}
-use Rattle.numbers.specs.Narrow.{Normal}
+use Rattle.numbers.specs.Mantissa.{Normal}
 use Rattle.numbers.proofs.PartLaws.{joined}
 use Rattle.numbers.proofs.HalfLaws.{low-e}
 

@@ -7,5 +7,5 @@ pub mod NarrowLaws
 pub mod RootLaws
 pub mod HalfLaws
 pub mod RootMono
-pub mod GuardLaws
+pub mod MaxLaws
 pub mod BoundLaws

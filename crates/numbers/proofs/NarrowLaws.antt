@@ -16,7 +16,8 @@ use lib.Ieee.Scale.{round-same}
 use lib.Ieee.Back.{whole-unique, round-whole}
 use lib.Ieee.Positive.{num, den, positive, den-pos, first-pos, le→cross, cross→le, above-of-le}
 use borrow.Author.Tests.{ltb-true, ltb-false, le-ltb}
-use Rattle.numbers.specs.Narrow.{narrowOf, least, Normal, Shifted}
+use Rattle.numbers.specs.Narrow.{narrowOf, least}
+use Rattle.numbers.specs.Mantissa.{Normal, Shifted}
 use Rattle.numbers.proofs.WholeLaws.{nought, differs, neg-round}
 use Rattle.floats.proofs.RoundLaws.{nearest-lt, Kept, round-bits, round-over, round-normal, round-low}
 use Rattle.numbers.proofs.PartLaws.{joined, stays, field-high, field-lt, regular, normal}

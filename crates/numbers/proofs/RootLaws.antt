@@ -23,8 +23,9 @@ use Rattle.numbers.proofs.PartLaws.{joined, normal}
 use Rattle.numbers.proofs.WholeLaws.{nought}
 use Rattle.numbers.proofs.OrderLaws.{zero-equal, not-zero}
 use Rattle.loops.proofs.Cases.{by-cases}
-use Rattle.numbers.specs.Narrow.{Normal, Shifted}
-use Rattle.numbers.specs.Root.{stepRoot, rootIn, rootOfNat, sticky, rootOf, NearRoot, Digits, RootFrom}
+use Rattle.numbers.specs.Mantissa.{Normal, Shifted}
+use Rattle.numbers.specs.Root.{stepRoot, rootIn, rootOfNat, sticky, rootOf}
+use Rattle.numbers.specs.Mantissa.{NearRoot, Digits, RootFrom}
 
 -- ---- squares
 sq-mono : {a b : ℕ} → a ≤ b → a * a ≤ b * b

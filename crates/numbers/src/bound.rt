@@ -1,11 +1,10 @@
 // Whether the root of x is below r, without the root: it rises with x, so that one comparison of x
 // with a bound decides. The bound is looked for near r * r and checked by two roots.
 ghost use mathlib.Core.Path.{_≡_};
-ghost use mathlib.Core.Bool.{true, false};
-ghost use Prim.Native.Nat.{_+_, _<_};
-ghost use lib.Ieee.{binary64, ofBits, isNan, lt, le};
+ghost use Prim.Native.Nat.{_<_};
+ghost use lib.Ieee.{lt};
 ghost use Rattle.numbers.specs.Root.{rootOf};
-ghost use Rattle.numbers.specs.Bound.{Bounds, Separates, Square};
+ghost use Rattle.numbers.specs.Bound.{Bounds, Square, separated, boundFrom, boundOf};
 use super::root::sqrt;
 
 // From(h): the root of x is below r exactly where x is below h. Untold: none was found.
@@ -17,7 +16,7 @@ pub enum Bound {
 // Whether r lies above the root of the float of pattern k, and not above that of the next one.
 fn separates(k: u64, r: f64) -> bool
     requires { ⌜ k < 0x7fef_ffff_ffff_ffff ⌝ }
-    ensures { λ b. ⌜ (b ≡ true → Separates k r) ⌝ }
+    ensures { λ b. ⌜ b ≡ separated r k ⌝ }
 {
     let lo = sqrt(f64::from_bits(k));
     let hi = sqrt(f64::from_bits(k + 1));
@@ -27,7 +26,7 @@ fn separates(k: u64, r: f64) -> bool
 // Looks among the eight patterns from k on.
 fn search(k: u64, r: f64) -> Bound
     requires { ⌜ k < 0x7fe0_0000_0000_0000 ⌝ }
-    ensures { λ b. ⌜ Bounds r b ⌝ }
+    ensures { λ b. ⌜ b ≡ boundFrom r k ⌝ }
 {
     for i in 0..8u64 {
         if separates(k + i, r) {
@@ -38,7 +37,8 @@ fn search(k: u64, r: f64) -> Bound
 }
 
 pub fn bound_of(r: f64) -> Bound
-    ensures { λ b. ⌜ Bounds r b ⌝ }
+    ensures is { λ b. ⌜ b ≡ boundOf r ⌝ }
+    ensures decides { λ b. ⌜ Bounds r b ⌝ }
 {
     let square = r * r;
     if 0.0 < square {

@@ -3,10 +3,10 @@ use mathlib.Core.Path.{_≡_, refl, sym, ap, _∙_, subst}
 use mathlib.Core.Bool.{Bool, true, false, cond, not, _&&_, _||_}
 use mathlib.Core.List.{List}
 use mathlib.Core.Logic.{_⊎_, inl, inr, ⊎-elim}
-use Prim.Native.Nat.{ℕ, _+_, _*_, _/_, _%_, _^_, _≤_, _<_}
+use Prim.Native.Nat.{ℕ, _+_, _*_, _%_, _^_, _≤_, _<_}
 use native.Mathlib.Omega.{arith}
 use lib.ListN.{getD}
-use native.Mathlib.Nat.{mul-le-mul-right, mul-add-mod-self-right, mod-eq-of-lt, div-add-mod'}
+use native.Mathlib.Nat.{mul-le-mul-right, mul-add-mod-self-right, mod-eq-of-lt}
 use lib.Dec.{eqb, ltb, leb}
 use borrow.Author.Tests.{lt-ltb, le-ltb, ltb-true, le-leb, lt-leb, leb-true}
 use lib.Ieee.{Float, nan, inf, fin, lt, le, eq, isNan, ofBits, toUnsigned}
@@ -14,12 +14,12 @@ use Rattle.numbers.specs.Order.{isFinite}
 use Rattle.geom.specs.Vec.{v2, f0, difference}
 use Rattle.geom.specs.declared.vec2.Vec2.{Vec2}
 use Rattle.loops.proofs.Cases.{by-test, never, both}
-use Rattle.loops.proofs.CellLaws.{row-below, same-row}
+use Rattle.loops.proofs.CellLaws.{row-below}
 use Rattle.floats.proofs.OrderLaws.{le-not-lt, not-le-lt}
-use Rattle.raster.specs.Grid.{Sides, reachOf, gridOf, sized, newGrid, columnAt, rowAt, astray, onGrid, cellOf, stockAt}
+use Rattle.raster.specs.Grid.{Sides, reachOf, fitOf, gridOf, sizedOf, newGrid, columnAt, rowAt, astray, onGrid, cellOf, stockAt}
 use Rattle.raster.specs.declared.grid.Grid.{Grid}
 use Rattle.raster.specs.declared.grid.Raster.{Raster}
-use Rattle.raster.specs.declared.grid.Raster.the-variants.{TooLarge, Of}
+use Rattle.raster.specs.declared.grid.Raster.the-variants.{Unfit, TooLarge, Of}
 use Rattle.raster.specs.declared.grid.Found.{Found}
 use Rattle.raster.specs.declared.grid.Found.the-variants.{Nothing, At}
 
@@ -146,10 +146,6 @@ number-below nx ny i j n h k b = omega (arith, row-below j ny nx n k b)
 pub column-back : (nx i j : ℕ) → i < nx → (j * nx + i) % nx ≡ i
 column-back nx i j h = mul-add-mod-self-right j nx i ∙ mod-eq-of-lt h
 
-pub row-back : (nx i j : ℕ) → i < nx → (j * nx + i) / nx ≡ j
-row-back nx i j h =
-    sym (same-row nx j ((j * nx + i) / nx) i ((j * nx + i) % nx) h (subst (λ (k : ℕ). k < nx) (sym (column-back nx i j h)) h) (sym (div-add-mod' (j * nx + i) nx)))
-
 -- ---- a grid over bounds
 
 -- sides that are not too large make a product that fits
@@ -157,32 +153,33 @@ pub few-cells : (a b : ℕ) → a ≤ 4096 → b ≤ 4096 → a * b ≤ 16777216
 few-cells a b h k = let z : a * b ≤ 4096 * b = mul-le-mul-right b h in omega arith
 
 module _ (lo hi : Vec2) (cell margin : Float) (w h : ℕ) (e : w ≡ reachOf (lo .x) (hi .x) cell margin) where
-  pub new-wide : 4096 ≤ w → TooLarge ≡ newGrid lo hi cell margin
-  unfolding newGrid sized gridOf
-  new-wide a = rw (← e, lt-leb (w + 1) 4096 (let z : 4096 < w + 1 = omega arith in z))
+  pub sized-wide : 4096 ≤ w → TooLarge ≡ sizedOf (gridOf lo hi cell margin)
+  unfolding sizedOf gridOf
+  sized-wide a = rw (← e, lt-leb (w + 1) 4096 (let z : 4096 < w + 1 = omega arith in z))
 
   module _ (d : h ≡ reachOf (lo .y) (hi .y) cell margin) (a : w < 4096) where
-    pub new-high : 4096 ≤ h → TooLarge ≡ newGrid lo hi cell margin
-    unfolding newGrid sized gridOf
-    new-high b = rw (← e, ← d, le-leb (w + 1) 4096 (let z : w + 1 ≤ 4096 = omega arith in z), lt-leb (h + 1) 4096 (let z : 4096 < h + 1 = omega arith in z))
+    pub sized-high : 4096 ≤ h → TooLarge ≡ sizedOf (gridOf lo hi cell margin)
+    unfolding sizedOf gridOf
+    sized-high b = rw (← e, ← d, le-leb (w + 1) 4096 (let z : w + 1 ≤ 4096 = omega arith in z), lt-leb (h + 1) 4096 (let z : 4096 < h + 1 = omega arith in z))
 
     module _ (b : h < 4096) where
-      pub new-many : 1048576 < (h + 1) * (w + 1) → TooLarge ≡ newGrid lo hi cell margin
-      unfolding newGrid sized gridOf
-      new-many f =
+      pub sized-many : 1048576 < (h + 1) * (w + 1) → TooLarge ≡ sizedOf (gridOf lo hi cell margin)
+      unfolding sizedOf gridOf
+      sized-many f =
           rw (← e, ← d, le-leb (w + 1) 4096 (let z : w + 1 ≤ 4096 = omega arith in z), le-leb (h + 1) 4096 (let z : h + 1 ≤ 4096 = omega arith in z), lt-leb ((h + 1) * (w + 1)) 1048576 f)
 
-      pub new-is : (h + 1) * (w + 1) ≤ 1048576 → (o : Vec2) → o ≡ difference lo (v2 margin margin) → Of (record { origin = o; cell = cell; nx = w + 1; ny = h + 1 }) ≡ newGrid lo hi cell margin
-      unfolding newGrid sized gridOf
-      new-is f o c =
+      pub sized-is : (h + 1) * (w + 1) ≤ 1048576 → (o : Vec2) → o ≡ difference lo (v2 margin margin) → Of (record { origin = o; cell = cell; nx = w + 1; ny = h + 1 }) ≡ sizedOf (gridOf lo hi cell margin)
+      unfolding sizedOf gridOf
+      sized-is f o c =
           rw (← e, ← d, le-leb (w + 1) 4096 (let z : w + 1 ≤ 4096 = omega arith in z), le-leb (h + 1) 4096 (let z : h + 1 ≤ 4096 = omega arith in z), le-leb ((h + 1) * (w + 1)) 1048576 f, ← c)
 
 abbrev Allowed : Raster → Type 0
+Allowed Unfit = Unit
 Allowed TooLarge = Unit
 Allowed (Of g) = Sides g
 
-sized-allowed : (g : Grid) → 0 < g .nx → 0 < g .ny → Allowed (sized g)
-unfolding sized
+sized-allowed : (g : Grid) → 0 < g .nx → 0 < g .ny → Allowed (sizedOf g)
+unfolding sizedOf
 sized-allowed g a b =
     by-test Allowed (leb (g .nx) 4096 && (leb (g .ny) 4096 && leb (g .ny * g .nx) 1048576)) (Of g) TooLarge
     (λ t.
@@ -194,4 +191,5 @@ sized-allowed g a b =
 -- a grid that is made has sides that every function of this crate takes
 pub new-sides : (lo hi : Vec2) (cell margin : Float) (g : Grid) → newGrid lo hi cell margin ≡ Of g → Sides g
 unfolding newGrid gridOf
-new-sides lo hi cell margin g e = subst Allowed e (sized-allowed (gridOf lo hi cell margin) (omega arith) (omega arith))
+new-sides lo hi cell margin g e =
+    subst Allowed e (by-test Allowed (fitOf lo hi cell) (sizedOf (gridOf lo hi cell margin)) Unfit (λ t. sized-allowed (gridOf lo hi cell margin) (omega arith) (omega arith)) (λ t. tt))

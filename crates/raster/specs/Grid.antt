@@ -14,7 +14,7 @@ use Rattle.geom.specs.declared.vec2.Vec2.{Vec2}
 use Rattle.raster.specs.declared.grid.Grid.{Grid}
 use Rattle.raster.specs.declared.grid.CellNo.{CellNo}
 use Rattle.raster.specs.declared.grid.Raster.{Raster}
-use Rattle.raster.specs.declared.grid.Raster.the-variants.{TooLarge, Of}
+use Rattle.raster.specs.declared.grid.Raster.the-variants.{Unfit, TooLarge, Of}
 use Rattle.raster.specs.declared.grid.Found.{Found}
 use Rattle.raster.specs.declared.grid.Found.the-variants.{Nothing, At}
 
@@ -47,12 +47,26 @@ gridOf lo hi cell margin = record {
   ny = reachOf (lo .y) (hi .y) cell margin + 1;
 }
 
--- a grid that is not too large
-unfoldable pub sized : Grid → Raster
-sized g = cond (leb (g .nx) 4096 && (leb (g .ny) 4096 && leb (g .ny * g .nx) 1048576)) (Of g) TooLarge
+-- a grid that is not too large: document 01, question 14
+unfoldable pub sizedOf : Grid → Raster
+sizedOf g = cond (leb (g .nx) 4096 && (leb (g .ny) 4096 && leb (g .ny * g .nx) 1048576)) (Of g) TooLarge
+
+-- numbers, hi not below lo
+unfoldable pub spansOf : Float → Float → Bool
+spansOf lo hi = (isFinite lo && isFinite hi) && not (lt hi lo)
+
+-- the Rust's tests: a cell above 0, corners that are numbers, and no corner beyond the other
+unfoldable pub fitOf : Vec2 → Vec2 → Float → Bool
+fitOf lo hi cell = (isFinite cell && lt f0 cell) && (spansOf (lo .x) (hi .x) && spansOf (lo .y) (hi .y))
 
 unfoldable pub newGrid : Vec2 → Vec2 → Float → Float → Raster
-newGrid lo hi cell margin = sized (gridOf lo hi cell margin)
+newGrid lo hi cell margin = cond (fitOf lo hi cell) (sizedOf (gridOf lo hi cell margin)) Unfit
+
+-- document 01's number of a refusal; 0 for a grid
+unfoldable pub refusalOf : Raster → ℕ
+refusalOf Unfit = 12
+refusalOf TooLarge = 14
+refusalOf (Of g) = 0
 
 unfoldable pub numbered : Grid → ℕ → ℕ → CellNo
 numbered g i j = record { 0 = j * g .nx + i }

@@ -1,8 +1,8 @@
 // A raster's cells: their numbers and centres, and the cell at a point.
 ghost use mathlib.Core.Path.{_≡_};
 ghost use Prim.Native.Nat.{_<_, _%_, _/_, _^_};
-ghost use lib.ListN.{length};
-ghost use Rattle.raster.specs.Grid.{Sides, Over, reachOf, newGrid, float, numbered, centerOf, cellOf, stockAt};
+ghost use lib.ListN.{length, getD};
+ghost use Rattle.raster.specs.Grid.{Sides, Over, refusalOf, spansOf, fitOf, reachOf, gridOf, sizedOf, newGrid, float, numbered, centerOf, cellOf, stockAt};
 use geom::vec2::Vec2;
 
 pub struct Grid {
@@ -22,10 +22,39 @@ pub enum Found {
     At(usize, usize),
 }
 
-// A grid that is not too large.
+// A grid, or why there is none: its corners or its cell are no corners and no cell, or it is too large.
 pub enum Raster {
+    Unfit,
     TooLarge,
     Of(Grid),
+}
+
+// Document 01's number of a refusal; 0 for a grid.
+pub fn refusal_of(r: Raster) -> u32
+    ensures { λ n. ⌜ n ≡ refusalOf r ⌝ }
+{
+    match r {
+        Raster::Unfit => 12,
+        Raster::TooLarge => 14,
+        Raster::Of(g) => 0,
+    }
+}
+
+// Numbers, the second not below the first.
+fn spans(lo: f64, hi: f64) -> bool
+    ensures { λ b. ⌜ b ≡ spansOf lo hi ⌝ }
+{
+    let numbers = numbers::order::is_finite(lo) & numbers::order::is_finite(hi);
+    numbers & !(hi < lo)
+}
+
+// The tests that the Rust makes of corners and cell.
+fn is_fit(lo: Vec2, hi: Vec2, cell: f64) -> bool
+    ensures { λ b. ⌜ b ≡ fitOf lo hi cell ⌝ }
+{
+    let positive = numbers::order::is_finite(cell) & (0.0 < cell);
+    let corners = spans(lo.x, hi.x) & spans(lo.y, hi.y);
+    positive & corners
 }
 
 // The whole cells from lo to hi with the margin on both sides, less one.
@@ -35,9 +64,9 @@ fn reach(lo: f64, hi: f64, cell: f64, margin: f64) -> usize
     numbers::cast::sat_u64(numbers::whole::ceil((hi - lo + 2.0 * margin) / cell)) as usize
 }
 
-// The grid over lo..hi with a margin around it, turned back where it is larger than document 01 allows.
-pub fn new(lo: Vec2, hi: Vec2, cell: f64, margin: f64) -> Raster
-    ensures { λ r. ⌜ r ≡ newGrid lo hi cell margin ⌝ }
+// The grid over lo..hi with a margin around it, unless it is larger than document 01 allows.
+fn sized(lo: Vec2, hi: Vec2, cell: f64, margin: f64) -> Raster
+    ensures { λ r. ⌜ r ≡ sizedOf (gridOf lo hi cell margin) ⌝ }
 {
     let w = reach(lo.x, hi.x, cell, margin);
     let h = reach(lo.y, hi.y, cell, margin);
@@ -60,6 +89,15 @@ pub fn new(lo: Vec2, hi: Vec2, cell: f64, margin: f64) -> Raster
         }
     }
     Raster::TooLarge
+}
+
+pub fn new(lo: Vec2, hi: Vec2, cell: f64, margin: f64) -> Raster
+    ensures { λ r. ⌜ r ≡ newGrid lo hi cell margin ⌝ }
+{
+    if is_fit(lo, hi, cell) {
+        return sized(lo, hi, cell, margin);
+    }
+    Raster::Unfit
 }
 
 pub fn cell_no(g: Grid, i: usize, j: usize) -> CellNo
@@ -98,6 +136,20 @@ pub fn cell_at(k: usize) -> CellNo
     ensures { λ c. ⌜ c .0 ≡ k ⌝ }
 {
     CellNo(k as u32)
+}
+
+// A cell's number as a slice holds it, and the cell that stands in a slice.
+pub fn number_of(c: CellNo) -> u32
+    ensures { λ n. ⌜ n ≡ c .0 ⌝ }
+{
+    c.0
+}
+
+pub fn cell_in(cells: &[u32], i: usize) -> CellNo
+    requires { ⌜ i < length (now cells) ⌝ }
+    ensures { λ c. ⌜ c .0 ≡ getD (now (cells .entry)) i 0 ⌝ }
+{
+    CellNo(cells[i])
 }
 
 // A whole number as a float, rounded as by Rust's `as`.

@@ -9,10 +9,11 @@ ghost use Rattle.raster.specs.Log.{st, Ready, Logged, clearCell, clearAf
 use super::disk::Span;
 use super::disk::crescent_row;
 use super::disk::rows_of;
-use super::grid::CellNo;
 use super::grid::Grid;
 use super::grid::cell_at;
+use super::grid::cell_in;
 use super::grid::index_of;
+use super::grid::number_of;
 use geom::vec2::Vec2;
 
 // Clears cells from..to, and logs those that were stock.
@@ -25,8 +26,7 @@ fn clear_run(map: &mut [u8], from: usize, to: usize, log: &mut [u32], count: usi
     for k in from..to {
         if map[k] == 1 {
             map[k] = 0;
-            let c = cell_at(k);
-            log[n] = c.0;
+            log[n] = number_of(cell_at(k));
             n += 1;
         }
     }
@@ -81,7 +81,7 @@ pub fn undo(map: &mut [u8], log: &[u32], count: usize)
     ensures { λ _. ⌜ now (map .exit) ≡ undone (now (log .entry)) 0 count (now (map .entry)) ⌝ }
 {
     for i in 0..count {
-        let k = index_of(CellNo(log[i]));
+        let k = index_of(cell_in(log, i));
         map[k] = 1;
     }
 }
@@ -92,7 +92,7 @@ pub fn clear_again(map: &mut [u8], log: &[u32], count: usize)
     ensures { λ _. ⌜ now (map .exit) ≡ redone (now (log .entry)) 0 count (now (map .entry)) ⌝ }
 {
     for entry in 0..count {
-        let k = index_of(CellNo(log[entry]));
+        let k = index_of(cell_in(log, entry));
         map[k] = 0;
     }
 }

@@ -8,7 +8,7 @@ use native.Mathlib.Nat.{mul-le-mul-right, suc-mul}
 use lib.ListN.{length, getD}
 use lib.Dec.{ltb}
 use borrow.Author.Tests.{ltb-true, ltb-false}
-use Rattle.loops.specs.Regions.{Fits, within}
+use Rattle.loops.specs.Regions.{Fits}
 use Rattle.loops.proofs.RegionLaws.{put-back, put-before, put-after}
 use Rattle.loops.proofs.Cases.{by-cases}
 use Rattle.setup.specs.Layout.{Region, at, Apart, bytes, words, singles, doubles, run, putRun}

@@ -16,9 +16,9 @@ use Rattle.floats.proofs.NumberLaws.{mul-number}
 use Rattle.floats.proofs.ShareLaws.{Normal, normal-of, normal-positive}
 use Rattle.numbers.specs.Circle.{pi, radiansOf}
 use Rattle.numbers.specs.Whole.{ceilOf}
-use Rattle.numbers.proofs.GuardLaws.{guard-lt, guard-above, guard-fits, target-le}
 use Rattle.numbers.specs.Small.{f1, f4}
 use Rattle.setup.specs.Limits.{guardOf, targetOf, samplesOf}
+use Rattle.setup.proofs.GuardLaws.{guard-lt, guard-above, guard-fits, target-le}
 
 -- ---- how many samples
 

@@ -1,8 +1,6 @@
 -- The workspace: which region of the four lent slices holds what, for a raster of n cells. Definitions only.
-use mathlib.Core.Path.{_≡_}
 use mathlib.Core.List.{List, [], _∷_}
 use Prim.Native.Nat.{ℕ, _+_, _*_, _≤_}
-use lib.Ieee.{Float}
 use Rattle.loops.specs.Regions.{within, put}
 
 -- the most cells of a raster (document 01, question 14)
@@ -157,16 +155,6 @@ Apart from (r ∷ rs) size = (from ≤ r .start) × Apart (r .start + r .long) r
 
 -- ---- what planning keeps there
 
--- the fields of the Planner that last from pass to pass: cells as bytes, the last round's field, the wall distances
-pub record Fields : Type 0 where
-  pub map : List ℕ
-  pub allowed : List ℕ
-  pub reach : List ℕ
-  pub abandoned : List ℕ
-  pub dirty : List ℕ
-  pub field : List Float
-  pub wall : List Float
-
 -- the kth run of n places
 abbrev pub run : {A : Type 0} → ℕ → ℕ → List A → List A
 run k n w = within (k * n) (k * n + n) w
@@ -193,13 +181,3 @@ pub record Lent (n b u f w : ℕ) : Type 0 where
   pub words : 32 * n + 8192 ≤ u
   pub singles : 2 * n ≤ f
   pub doubles : 32 * n + 8192 ≤ w
-
--- the bytes, f32 and f64 that are lent hold the fields p
-pub record Holds (n : ℕ) (b : List ℕ) (f w : List Float) (p : Fields) : Type 0 where
-  pub map : run 0 n b ≡ p .map
-  pub allowed : run 1 n b ≡ p .allowed
-  pub reach : run 2 n b ≡ p .reach
-  pub abandoned : run 3 n b ≡ p .abandoned
-  pub dirty : run 4 n b ≡ p .dirty
-  pub field : run 0 n f ≡ p .field
-  pub wall : run 0 n w ≡ p .wall

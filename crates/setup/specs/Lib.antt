@@ -2,3 +2,4 @@
 pub mod Layout
 pub mod Limits
 pub mod Place
+pub mod Made

@@ -13,9 +13,13 @@ c95 = ofBits binary64 0x3fee_6666_6666_6666
 abbrev pub c85 : Float
 c85 = ofBits binary64 0x3feb_3333_3333_3333
 
+-- max(half the limit, min(0.95 limit, y))
+abbrev pub guardBy : Float → Float → Float
+guardBy limit y = maxOf (mul binary64 limit half) (minOf (mul binary64 c95 limit) y)
+
 -- max(half the limit, min(0.95 limit, limit - 2 cell/r))
 unfoldable pub guardOf : Float → Float → Float → Float
-guardOf limit cell r = maxOf (mul binary64 limit half) (minOf (mul binary64 c95 limit) (sub binary64 limit (div binary64 (mul binary64 f2 cell) r)))
+guardOf limit cell r = guardBy limit (sub binary64 limit (div binary64 (mul binary64 f2 cell) r))
 
 -- 0.85 guard
 unfoldable pub targetOf : Float → Float

@@ -1,5 +1,8 @@
 // What planning fixes once (adaptive.rs of the Rust, `Planner::new`): the limits of a cut, and the tests
 // that every upper layer makes of a tool's place.
+ghost use mathlib.Core.Path.{_≡_};
+ghost use Rattle.setup.specs.Made.{setupOf};
+
 pub mod fill;
 pub mod layout;
 pub mod limits;
@@ -23,4 +26,35 @@ pub struct Setup {
     pub guard: f64,
     pub samples: usize,
     pub keep_down: bool,
+}
+
+impl Setup {
+    // The tool's diameter, the stock to leave at walls, and the engagement in degrees.
+    pub fn new(
+        grid: Grid,
+        region: Region,
+        diameter: f64,
+        leave: f64,
+        degrees: f64,
+        keep_down: bool,
+    ) -> Setup
+        ensures { λ s. ⌜ s ≡ setupOf grid region diameter leave degrees «keep_down» ⌝ }
+    {
+        let r = diameter * 0.5;
+        let keep = r + leave;
+        let bound = numbers::bound::bound_of(keep);
+        let guard = limits::guard_of(numbers::circle::to_radians(degrees), grid.cell, r);
+        Setup {
+            grid,
+            region,
+            r,
+            r_guard: r + 0.25 * grid.cell,
+            keep,
+            bound,
+            target: limits::target_of(guard),
+            guard,
+            samples: limits::samples_of(r, grid.cell),
+            keep_down,
+        }
+    }
 }

@@ -4,6 +4,16 @@ use oracle::vec2::{Vec2, v2};
 
 mod linked {
     unsafe extern "C" {
+        pub fn raster_new(
+            lx: f64,
+            ly: f64,
+            hx: f64,
+            hy: f64,
+            cell: f64,
+            margin: f64,
+            out: *mut f64,
+            out_len: usize,
+        ) -> u64;
         pub safe fn raster_cell_of(ox: f64, oy: f64, cell: f64, nx: usize, ny: usize, x: f64, y: f64) -> u64;
         pub safe fn raster_disk_row(
             ox: f64,
@@ -114,6 +124,17 @@ mod linked {
             xs_len: usize,
         );
     }
+}
+
+/// The corner and the sides of the grid over two corners, or document 01's refusal.
+pub fn new(lo: Vec2, hi: Vec2, cell: f64, margin: f64) -> Result<(Vec2, usize, usize), u64> {
+    let mut out = [f64::NAN; 2];
+    let k = unsafe { linked::raster_new(lo.x, lo.y, hi.x, hi.y, cell, margin, out.as_mut_ptr(), 2) };
+    if k >> 32 == 0 {
+        assert!(out[0].is_nan() && out[1].is_nan());
+        return Err(k);
+    }
+    Ok((v2(out[0], out[1]), (k & 0xffff_ffff) as usize, (k >> 32) as usize))
 }
 
 /// Fills the table of n directions.

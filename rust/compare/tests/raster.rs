@@ -3,6 +3,7 @@
 use compare::bits::Bits;
 use compare::geom::Lent;
 use compare::raster::Stock;
+use oracle::error::CamError;
 use oracle::generate::Rng;
 use oracle::geom::Region;
 use oracle::raster::Grid;
@@ -61,6 +62,61 @@ fn each(seed: u64, calls: usize, mut check: impl FnMut(&mut Rng, Stock, Grid)) {
         let (stock, grid) = pair(&mut r);
         check(&mut r, stock, grid);
     }
+}
+
+/// Corners and cell of a grid: fit ones, sides at document 01's limits, and what is no corner or no cell.
+fn bounds(r: &mut Rng) -> (Vec2, Vec2, f64) {
+    let cell = match r.below(8) {
+        0 => [0.0, -0.0, -1.0, f64::NAN, f64::INFINITY][r.below(5) as usize],
+        _ => [1.0, 0.25, 0.1, 3.7][r.below(4) as usize],
+    };
+    let lo = v2(r.range(-50.0, 50.0), r.range(-50.0, 50.0));
+    let side = |r: &mut Rng| match r.below(12) {
+        0 => 4095.0 + r.below(3) as f64,
+        1 => 0.0,
+        2 => -r.range(0.0, 3.0),
+        _ => r.range(0.0, 30.0),
+    };
+    let mut hi = v2(lo.x + side(r) * cell, lo.y + side(r) * cell);
+    let mut lo = lo;
+    if r.below(16) == 0 {
+        let odd = [f64::NAN, f64::INFINITY, -f64::INFINITY][r.below(3) as usize];
+        match r.below(4) {
+            0 => lo.x = odd,
+            1 => lo.y = odd,
+            2 => hi.x = odd,
+            _ => hi.y = odd,
+        }
+    }
+    (lo, hi, cell)
+}
+
+#[test]
+fn grids() {
+    let mut r = Rng(30);
+    let mut answers = [0; 3];
+    for _ in 0..CALLS / 10 {
+        let (lo, hi, cell) = bounds(&mut r);
+        let margin = [0.0, 0.5, 2.0][r.below(3) as usize] * cell;
+        let want = match Grid::new(lo, hi, cell, margin) {
+            Ok(g) if g.nx <= 4096 && g.ny <= 4096 && g.nx * g.ny <= 1_048_576 => Ok(g),
+            Ok(_) | Err(CamError::LimitExceeded(_)) => Err(14),
+            Err(_) => Err(12),
+        };
+        let got = compare::raster::new(lo, hi, cell, margin);
+        match (got, want) {
+            (Ok((o, nx, ny)), Ok(g)) => {
+                assert_eq!((o.x.bits(), o.y.bits(), nx, ny), (g.origin.x.bits(), g.origin.y.bits(), g.nx, g.ny));
+                answers[0] += 1;
+            }
+            (Err(a), Err(b)) => {
+                assert_eq!(a, b, "{lo:?} {hi:?} {cell} {margin}");
+                answers[if a == 12 { 1 } else { 2 }] += 1;
+            }
+            (a, b) => panic!("{lo:?} {hi:?} {cell} {margin}: {a:?} {}", b.is_ok()),
+        }
+    }
+    assert!(answers.iter().all(|&n| n > 500), "{answers:?}");
 }
 
 #[test]

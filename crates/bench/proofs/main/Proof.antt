@@ -17,7 +17,7 @@ slice-aggregate-listen-2 : tie.Need-slice-aggregate-listen-2
 slice-aggregate-listen-2 c = search needs
 
 listen-requires : tie.Need-listen-requires
-listen-requires c κs = subst (λ (b : Bench). Fit b _ _) (sym (c .before .before .start .ensures)) (fit-start _ _ refl refl)
+listen-requires c κs = subst (λ (b : Bench). Fit b _ _) (sym (c .before .before .start .ensures .0)) (fit-start _ _ refl refl)
 
 slice-aggregate-finish : tie.Need-slice-aggregate-finish
 slice-aggregate-finish c = search needs

@@ -1,27 +1,31 @@
--- `bench_talk::bytes` is safe and ends. The invariant: the bench is fit for its next line. Assumes nothing.
-use mathlib.Core.Path.{_≡_, refl, _∙_}
-use Prim.Native.Nat.{_-_}
+-- `bench_talk::bytes` meets its contract. Assumes nothing.
+use mathlib.Core.Path.{_≡_, refl, sym, subst, _∙_}
+use Prim.Native.Nat.{_-_, _≤_, max}
 use native.Mathlib.Omega.{arith}
 use lib.ListN.{length}
 use borrow.Author.Needs.{needs}
+use Rattle.loops.specs.Loop.{loop}
+use Rattle.loops.proofs.LoopLaws.{loop-none, loop-more, loop-end}
 use Rattle.bench_lines.specs.Obey.{Fit}
+use Rattle.bench_lines.specs.Reader.{Heard, heardAt, heardOf}
+use Rattle.bench_talk.specs.Hears.{Hears}
 use Rattle.bench_talk.proofs.bytes.Statement.{statement}
 use Rattle.bench_talk.proofs.bytes.Tie as tie
 
 abbrev Inv-loop : tie.InvT-loop
-Inv-loop read map₀ log₀ t₀ i₀ i-end map log t i = Fit (t .bench) map log × (length map ≡ length map₀) × (length log ≡ length log₀)
+Inv-loop read map₀ log₀ t₀ i₀ i-end map log t i = Fit (t .bench) map log × (i ≤ length read) × (length map ≡ length map₀) × (length log ≡ length log₀) × ((h : Heard) → Hears t₀ map₀ log₀ h → Hears t map log (loop (heardAt read) 0 i h))
 
 abbrev μ-loop : tie.MeasureT-loop
 μ-loop read map₀ log₀ t₀ i₀ i-end map log t i = length read - i
 
 loop-holds : tie.Need-loop-holds Inv-loop μ-loop
-loop-holds c = search needs
+loop-holds c = (c .before .before .before .pre, omega arith, refl, refl, λ h H. subst (Hears _ _ _) (loop-none (heardAt (c .before .before .before .args .read .now)) 0 h) H)
 
 shared-slice-read-byte : tie.Need-shared-slice-read-byte Inv-loop μ-loop
 shared-slice-read-byte c = search needs
 
 byte-requires : tie.Need-byte-requires Inv-loop μ-loop
-byte-requires c κs = search needs
+byte-requires c κs = c .before .before .before .before .loop .inv .0
 
 add-i : tie.Need-add-i Inv-loop μ-loop
 add-i c = omega arith
@@ -30,7 +34,16 @@ loop-less : tie.Need-loop-less Inv-loop μ-loop
 loop-less c = omega arith
 
 loop-again : tie.Need-loop-again Inv-loop μ-loop
-loop-again c = search needs
+loop-again c =
+    let e = c .before .before .before .before in
+    let l = e .before .before .before .before .before .loop in
+    let read = e .before .before .before .before .before .before .before .before .before .args .read .now in (
+      e .byte .ensures .0,
+      omega arith,
+      search needs,
+      search needs,
+      λ h H. subst (Hears _ _ _) (loop-more (heardAt read) 0 (l .i) h (omega arith)) (e .byte .ensures .1 _ (l .inv .4 h H)),
+    )
 
 same-length : tie.Need-same-length Inv-loop μ-loop
 same-length c = search needs
@@ -39,7 +52,12 @@ same-length-2 : tie.Need-same-length-2 Inv-loop μ-loop
 same-length-2 c = search needs
 
 returns : tie.Need-returns Inv-loop μ-loop
-returns c = search needs
+unfolding heardOf
+returns c =
+    let read = c .before .before .before .before .before .args .read .now in
+    let i = c .before .loop .i in
+    let high : i ≤ max 0 (length read) = omega arith in
+    (c .before .loop .inv .0, λ h H. subst (Hears _ _ _) (loop-end (heardAt read) 0 i (length read) h (omega arith) (omega arith) high) (c .before .loop .inv .4 h H))
 
 pub bytes-spec : {M : Type 1} → statement M
 bytes-spec =

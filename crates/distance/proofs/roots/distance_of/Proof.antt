@@ -1,6 +1,4 @@
 -- `distance::roots::distance_of` meets its contract. Assumes nothing.
-use mathlib.Core.Path.{ap}
-use Prim.Native.Nat.{ℕ}
 use borrow.Author.Tests.{eq-eqb, ne-eqb}
 use lib.Ieee.{nanBits, ofBits, ofInt, round}
 use Rattle.numbers.specs.Root.{rootOf}

@@ -1,11 +1,9 @@
 -- `geom::region::point_in_loop` meets its contract. The invariant: the answer is what the edges so far leave, and b is the vertex before vertex i. Assumes nothing.
-use mathlib.Core.Path.{_≡_, refl, sym, ap, _∙_}
+use mathlib.Core.Path.{_≡_, _∙_}
 use mathlib.Core.Bool.{false}
-use Prim.Native.Nat.{ℕ, _+_, _-_}
+use Prim.Native.Nat.{_+_, _-_}
 use native.Mathlib.Omega.{arith}
-use lib.Dec.{eqb}
 use borrow.Author.Needs.{needs}
-use borrow.Author.Tests.{eq-eqb, ne-eqb}
 use Rattle.loops.proofs.LoopLaws.{Going, going-none, going-more, going-end}
 use Rattle.geom.specs.Region.{vertexOf, before, pointInLoop}
 use Rattle.geom.proofs.RegionLaws.{edge, before-first, before-next, none-inside}

@@ -1,19 +1,24 @@
--- `numbers::bound::search` meets its contract: what is found decides. Assumes nothing.
-use Prim.Native.Nat.{_+_, _-_, _≤_}
+-- `numbers::bound::search` meets its contract. Assumes nothing.
+use Prim.Native.Nat.{_-_}
 use native.Mathlib.Omega.{arith}
 use Rattle.numbers.proofs.RootLaws.{no-nan-bits}
-use Rattle.numbers.proofs.BoundLaws.{decides}
+use mathlib.Core.Path.{sym, ap, _∙_}
+use Rattle.loops.specs.Loop.{on, turn}
+use Rattle.loops.proofs.LoopLaws.{Going, going-none, going-on, going-end}
+use Rattle.numbers.specs.Bound.{lookAt, looked, boundFrom}
+use Rattle.numbers.specs.declared.bound.Bound.the-variants.{Untold}
+use Rattle.numbers.proofs.BoundLaws.{found-at}
 use Rattle.numbers.proofs.bound.search.Statement.{statement}
 use Rattle.numbers.proofs.bound.search.Tie as tie
 
 abbrev Inv-loop : tie.InvT-loop
-Inv-loop k r i₀ i = i ≤ 8
+Inv-loop k r i₀ i = Going (turn (lookAt r k)) 0 8 (on Untold) (on Untold) i
 
 abbrev μ-loop : tie.MeasureT-loop
 μ-loop k r i₀ i = 8 - i
 
 loop-holds : tie.Need-loop-holds Inv-loop μ-loop
-loop-holds c = omega arith
+loop-holds c = going-none _ _ _ _
 
 add-separates : tie.Need-add-separates Inv-loop μ-loop
 add-separates c = omega arith
@@ -33,7 +38,8 @@ float-from-bits-t9 c = no-nan-bits _ (omega arith)
 returns : tie.Need-returns Inv-loop μ-loop
 returns c =
     let s = c .before .before .before .before .args in
-    decides (s .k + c .before .before .before .loop .i) (s .r) (omega arith) (c .before .separates .ensures (c .if1 .taken))
+    let l = c .before .before .before .loop in
+    found-at (s .r) (s .k) (omega arith) Untold (l .i) (l .inv) (omega arith) (sym (c .before .separates .ensures) ∙ c .if1 .taken)
 
 add-i : tie.Need-add-i Inv-loop μ-loop
 add-i c = omega arith
@@ -42,10 +48,14 @@ loop-less : tie.Need-loop-less Inv-loop μ-loop
 loop-less c = omega arith
 
 loop-again : tie.Need-loop-again Inv-loop μ-loop
-loop-again c = omega arith
+unfolding lookAt
+loop-again c =
+    let l = c .before .before .before .loop in
+    going-on _ 0 8 (on Untold) Untold Untold (l .i) (l .inv) (omega arith) (rw (sym (c .before .separates .ensures) ∙ c .if1 .left))
 
 returns-2 : tie.Need-returns-2 Inv-loop μ-loop
-returns-2 c = tt
+unfolding boundFrom looked
+returns-2 c = ap looked (going-end _ 0 8 (on Untold) (on Untold) _ (c .before .loop .inv) (omega arith))
 
 pub search-spec : {M : Type 1} → statement M
 search-spec =

@@ -1,8 +1,6 @@
 -- `numbers::bound::separates` meets its contract. Assumes nothing.
-use mathlib.Core.Path.{sym, ap, _∙_}
 use native.Mathlib.Omega.{arith}
-use lib.Ieee.{Float, lt, le}
-use Rattle.loops.proofs.Cases.{both}
+use Rattle.numbers.specs.Bound.{separated}
 use Rattle.numbers.proofs.RootLaws.{no-nan-bits}
 use borrow.Author.Needs.{needs}
 use Rattle.numbers.proofs.bound.separates.Statement.{statement}
@@ -24,10 +22,8 @@ sqrt-requires-2 : tie.Need-sqrt-requires-2
 sqrt-requires-2 c κs = search needs
 
 returns : tie.Need-returns
-returns c = λ t.
-    let r = c .before .before .args .r in
-    let d = both (lt (c .before .sqrt .result) r) (le r (c .sqrt2 .result)) t in
-    record { above = ap (λ (z : Float). lt z r) (sym (c .before .sqrt .ensures)) ∙ d .0; not-above = ap (le r) (sym (c .sqrt2 .ensures)) ∙ d .1 }
+unfolding separated
+returns c = rw (← c .before .sqrt .ensures, ← c .sqrt2 .ensures)
 
 pub separates-spec : {M : Type 1} → statement M
 separates-spec =

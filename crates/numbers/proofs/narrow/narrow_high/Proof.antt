@@ -8,7 +8,8 @@ use lib.Dec.{T}
 use lib.Pow.{pow-pos}
 use lib.Ieee.{binary32, binary64, fits, ofBits, toBits}
 use lib.Ieee.Nearest.{closest}
-use Rattle.numbers.specs.Narrow.{narrowOf, Shifted}
+use Rattle.numbers.specs.Narrow.{narrowOf}
+use Rattle.numbers.specs.Mantissa.{Shifted}
 use Rattle.numbers.proofs.PartLaws.{digits-are}
 use Rattle.numbers.proofs.ShiftLaws.{carried}
 use Rattle.numbers.proofs.NarrowLaws.{no-nan-bits, no-nan-high, High, high, High-shifted, high-e, narrow-bits, narrow-over}

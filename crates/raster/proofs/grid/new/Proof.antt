@@ -1,55 +1,23 @@
 -- `raster::grid::new` meets its contract. Assumes nothing.
-use Prim.Native.Nat.{_+_, _≤_}
-use native.Mathlib.Omega.{arith}
-use Rattle.raster.proofs.GridLaws.{few-cells, new-wide, new-high, new-many, new-is}
+use mathlib.Core.Path.{sym, _∙_}
 use borrow.Author.Needs.{needs}
+use Rattle.raster.specs.Grid.{newGrid}
 use Rattle.raster.proofs.grid.new.Statement.{statement}
 use Rattle.raster.proofs.grid.new.Tie as tie
 
-reach-requires : tie.Need-reach-requires
-reach-requires c κs = search needs
+is-fit-requires : tie.Need-is-fit-requires
+is-fit-requires c κs = search needs
 
-reach-requires-2 : tie.Need-reach-requires-2
-reach-requires-2 c κs = search needs
-
-add-nx : tie.Need-add-nx
-add-nx c = search needs
-
-add-ny : tie.Need-add-ny
-add-ny c = search needs
-
-mul-if3 : tie.Need-mul-if3
-mul-if3 c =
-    let a : c .before .before .reach2 .result + 1 ≤ 4096 = omega (arith, c .if2 .taken) in
-    let b : c .before .before .before .reach .result + 1 ≤ 4096 = omega (arith, c .before .if1 .taken) in
-    omega (arith, few-cells _ _ a b)
-
-sub-requires : tie.Need-sub-requires
-sub-requires c κs = search needs
+sized-requires : tie.Need-sized-requires
+sized-requires c κs = search needs
 
 returns : tie.Need-returns
-returns c = new-is _ _ _ _ _ _ (c .before .before .before .before .before .reach .ensures) (c .before .before .before .before .reach2 .ensures) (c .before .before .before .if1 .taken) (c .before .before .if2 .taken) (c .before .if3 .taken) _ (c .sub .ensures)
+unfolding newGrid
+returns c = rw (sym (c .before .before .is-fit .ensures) ∙ c .before .if1 .taken) (c .sized .ensures)
 
 returns-2 : tie.Need-returns-2
-returns-2 c = new-many _ _ _ _ _ _ (c .before .before .before .before .reach .ensures) (c .before .before .before .reach2 .ensures) (c .before .before .if1 .taken) (c .before .if2 .taken) (c .if3 .left)
-
-returns-3 : tie.Need-returns-3
-returns-3 c = new-high _ _ _ _ _ _ (c .before .before .before .reach .ensures) (c .before .before .reach2 .ensures) (c .before .if1 .taken) (c .if2 .left)
-
-returns-4 : tie.Need-returns-4
-returns-4 c = new-wide _ _ _ _ _ 0 (c .before .before .reach .ensures) (c .if1 .left)
+unfolding newGrid
+returns-2 c = rw (sym (c .before .is-fit .ensures) ∙ c .if1 .left)
 
 pub new-spec : {M : Type 1} → statement M
-new-spec =
-    tie.close
-    (tie.spec
-    reach-requires
-    reach-requires-2
-    add-nx
-    add-ny
-    mul-if3
-    sub-requires
-    returns
-    returns-2
-    returns-3
-    returns-4)
+new-spec = tie.close (tie.spec is-fit-requires sized-requires returns returns-2)

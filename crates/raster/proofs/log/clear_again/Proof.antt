@@ -22,17 +22,14 @@ loop-holds c = going-none _ _ _ _
 long : (c : tie.At-loop Inv-loop μ-loop) → length (c .loop .map) ≡ length (c .before .before .before .args .map .now)
 long c = ap length (c .loop .inv .is) ∙ redone-long (c .before .before .before .args .log .now) 0 (c .loop .entry) (c .before .before .before .args .map .now)
 
-mul-t7 : tie.Need-mul-t7 Inv-loop μ-loop
-mul-t7 c = omega (arith, c .before .before .before .before .pre .within)
-
-shared-slice-read-t9 : tie.Need-shared-slice-read-t9 Inv-loop μ-loop
-shared-slice-read-t9 c = omega (arith, c .before .before .before .before .before .pre .within)
+cell-in-requires : tie.Need-cell-in-requires Inv-loop μ-loop
+cell-in-requires c κs = omega (arith, c .before .before .before .before .pre .within)
 
 index-of-requires : tie.Need-index-of-requires Inv-loop μ-loop
 index-of-requires c κs = search needs
 
 slice-write-map : tie.Need-slice-write-map Inv-loop μ-loop
-slice-write-map c = omega (arith, long (c .before .before .before), c .index-of .ensures, c .before .before .before .before .before .before .pre .cell (c .before .before .before .loop .entry) (c .before .before .loop-test .taken))
+slice-write-map c = omega (arith, long (c .before .before .before), c .index-of .ensures, c .before .cell-in .ensures, c .before .before .before .before .before .before .pre .cell (c .before .before .before .loop .entry) (c .before .before .loop-test .taken))
 
 add-entry : tie.Need-add-entry Inv-loop μ-loop
 add-entry c = omega arith
@@ -42,7 +39,7 @@ loop-less c = omega arith
 
 loop-again : tie.Need-loop-again Inv-loop μ-loop
 loop-again c =
-    going-more _ _ _ _ _ _ _ (c .before .before .before .loop .inv) (c .before .before .loop-test .taken) (ap (λ (k : ℕ). set (c .before .before .before .loop .map) k 0) (c .index-of .ensures))
+    going-more _ _ _ _ _ _ _ (c .before .before .before .loop .inv) (c .before .before .loop-test .taken) (ap (λ (k : ℕ). set (c .before .before .before .loop .map) k 0) (c .index-of .ensures ∙ c .before .cell-in .ensures))
 
 same-length : tie.Need-same-length Inv-loop μ-loop
 same-length c = long (c .before)
@@ -58,8 +55,7 @@ clear-again-spec =
     Inv-loop
     μ-loop
     loop-holds
-    mul-t7
-    shared-slice-read-t9
+    cell-in-requires
     index-of-requires
     slice-write-map
     add-entry

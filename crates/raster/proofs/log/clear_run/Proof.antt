@@ -7,6 +7,7 @@ use lib.ListN.{length, set}
 use Rattle.loops.proofs.LoopLaws.{Going, going-none, going-more, going-end}
 use Rattle.raster.specs.Log.{st, clearCell}
 use Rattle.raster.proofs.LogLaws.{Kept, going-kept, room-left, cell-taken, cell-left, st-eq}
+use borrow.Author.Needs.{needs}
 use Rattle.raster.proofs.log.clear_run.Statement.{statement}
 use Rattle.raster.proofs.log.clear_run.Tie as tie
 
@@ -36,14 +37,17 @@ slice-write-map c = omega (arith, kept (c .before .before .before) .cells-long)
 cell-at-requires : tie.Need-cell-at-requires Inv-loop μ-loop
 cell-at-requires c κs = omega (arith, c .before .before .before .before .before .before .pre .1 .small)
 
+number-of-requires : tie.Need-number-of-requires Inv-loop μ-loop
+number-of-requires c κs = search needs
+
 mul-log : tie.Need-mul-log Inv-loop μ-loop
-mul-log c = omega (arith, room (c .before), kept (c .before .before .before .before) .log-long)
+mul-log c = omega (arith, room (c .before .before), kept (c .before .before .before .before .before) .log-long)
 
 slice-write-log : tie.Need-slice-write-log Inv-loop μ-loop
-slice-write-log c = room (c .before)
+slice-write-log c = room (c .before .before)
 
 add-n : tie.Need-add-n Inv-loop μ-loop
-add-n c = omega (arith, room (c .before), kept (c .before .before .before .before) .log-long)
+add-n c = omega (arith, room (c .before .before), kept (c .before .before .before .before .before) .log-long)
 
 add-k : tie.Need-add-k Inv-loop μ-loop
 add-k c = omega arith
@@ -56,7 +60,7 @@ loop-again c =
     let at-loop = c .before .before .before in
     going-more _ _ _ _ _ _ _ (at-loop .loop .inv) (c .before .before .loop-test .taken)
     (⊎-elim
-    (λ w. st-eq (w .2) (w .3 ∙ ap (λ (v : ℕ). set (at-loop .loop .log) (at-loop .loop .n) v) (w .1 .ensures)) (w .4) ∙ cell-taken _ _ (w .0 .taken))
+    (λ w. st-eq (w .3) (w .4 ∙ ap (λ (v : ℕ). set (at-loop .loop .log) (at-loop .loop .n) v) (w .2 .ensures ∙ w .1 .ensures)) (w .5) ∙ cell-taken _ _ (w .0 .taken))
     (λ w. st-eq (w .1) (w .2) (w .3) ∙ cell-left _ _ (w .0 .left))
     (c .if1 .came))
 
@@ -79,6 +83,7 @@ clear-run-spec =
     slice-read-if1
     slice-write-map
     cell-at-requires
+    number-of-requires
     mul-log
     slice-write-log
     add-n

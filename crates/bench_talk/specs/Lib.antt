@@ -1,0 +1,2 @@
+-- What the contracts of `bench_talk` cite.
+pub mod Hears
