@@ -10,7 +10,7 @@ use Rattle.numbers.specs.Whole.{floorOf, ceilOf}
 use Rattle.numbers.specs.Order.{maxOf, isFinite, rankOf, totalOf}
 use Rattle.geom.specs.Vec.{sum, difference, scaled, fromAngle}
 use Rattle.geom.specs.Region.{vertexOf, straddlesOf, crossingOf, startOf, crossed, loopCrossings, crossingsIn, crossingsOf}
-use Rattle.raster.specs.Grid.{reachOf, gridOf, sized, newGrid, onGrid, cellOf, stockAt}
+use Rattle.raster.specs.Grid.{reachOf, spansOf, fitOf, gridOf, sizedOf, newGrid, onGrid, cellOf, stockAt}
 use Rattle.raster.specs.Disk.{rowY, cellAt, firstFrom, colsOf, diskRow, lastRow, rowsOf, leftOf, rightOf, less, crescentRow}
 use Rattle.raster.specs.Sweep.{overSpan, diskAt, overDisk, crescentAt, overCrescent}
 use Rattle.raster.specs.Stock.{dropCell, clearDisk}
@@ -18,17 +18,18 @@ use Rattle.raster.specs.Log.{clearCell, clearAfter, undone}
 use Rattle.raster.specs.Contact.{samplesOf, directionAt, rimAt, hitAt, hitsOf, angleOf, engagementOf}
 use Rattle.raster.specs.Sort.{precedes, swapped, sunk, sortedOf}
 use Rattle.raster.specs.Fill.{between, pairSpan, pairAt, fillPair, fillRow, rowCrossings, fillAt, fillRegion}
-use Rattle.distance.specs.Nearest.{nearestInRow, nearest, listed, squaresOf}
-use Rattle.distance.specs.Rooted.{distanceOf, distanceTransform}
+use Rattle.distance.specs.Nearest.{nearestInRow, nearest, listed, squaresOf, transformOf}
+use Rattle.distance.specs.Rooted.{distanceOf, distancesOf}
+use Rattle.passes.specs.Worth.{wantedOf}
 use Rattle.marked.specs.Table.{Table}
 
 pub table : Table
 unfolding ofBits toBits round narrowOf rootOf cosOf sinOf cosSeries sinSeries ofInt toUnsigned neg add sub mul div lt le eq isNan turns loop ones
     floorOf ceilOf maxOf isFinite rankOf totalOf sum difference scaled fromAngle vertexOf straddlesOf crossingOf startOf crossed loopCrossings crossingsIn
-    crossingsOf reachOf gridOf sized newGrid onGrid cellOf stockAt rowY cellAt firstFrom colsOf diskRow lastRow rowsOf leftOf rightOf less crescentRow
+    crossingsOf reachOf spansOf fitOf gridOf sizedOf newGrid onGrid cellOf stockAt rowY cellAt firstFrom colsOf diskRow lastRow rowsOf leftOf rightOf less crescentRow
     overSpan diskAt overDisk crescentAt overCrescent dropCell clearDisk clearCell clearAfter undone samplesOf directionAt rimAt hitAt hitsOf angleOf
     engagementOf precedes swapped sunk sortedOf between pairSpan pairAt fillPair fillRow rowCrossings fillAt fillRegion nearestInRow nearest listed
-    squaresOf distanceOf distanceTransform
+    squaresOf transformOf distanceOf distancesOf wantedOf
 table = record {
   numbers = record { cosine = refl; root = refl; narrow-even = refl; narrow-odd = refl };
   disks = record { once = refl; twice = refl };
@@ -37,4 +38,5 @@ table = record {
   cells = record { off = refl; first = refl };
   squares = record { sides = refl; set = refl };
   distances = record { mid = refl; none = refl };
+  passes = record { long = refl; short = refl };
 }

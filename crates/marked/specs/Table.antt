@@ -5,11 +5,12 @@ use mathlib.Core.Bool.{false}
 use mathlib.Core.List.{List, [], _∷_}
 use Prim.Native.Nat.{ℕ}
 use lib.ListN.{replicate, take}
-use lib.Ieee.{Float, inf, binary32, binary64, ofBits}
+use lib.Ieee.{Float, nan, inf, binary32, binary64, ofBits}
 use Rattle.loops.specs.Cells.{ones}
 use Rattle.numbers.specs.Narrow.{narrowOf}
 use Rattle.numbers.specs.Root.{rootOf}
 use Rattle.numbers.specs.Circle.{cosOf}
+use Rattle.numbers.specs.Small.{f1, f2, f4}
 use Rattle.geom.specs.Vec.{v2, f0}
 use Rattle.geom.specs.declared.vec2.Vec2.{Vec2}
 use Rattle.geom.specs.declared.region.Region.{Region}
@@ -21,12 +22,13 @@ use Rattle.raster.specs.Fill.{fillRegion}
 use Rattle.raster.specs.declared.grid.Grid.{Grid}
 use Rattle.raster.specs.declared.grid.Raster.the-variants.{Of}
 use Rattle.raster.specs.declared.grid.Found.the-variants.{Nothing, At}
-use Rattle.distance.specs.Nearest.{squaresOf}
-use Rattle.distance.specs.Rooted.{distanceTransform}
+use Rattle.distance.specs.Nearest.{transformOf}
+use Rattle.distance.specs.Rooted.{distancesOf}
+use Rattle.passes.specs.Worth.{wantedOf}
 
 pub record Numbers : Type 0 where
   -- the cosine of 0 is 1
-  pub cosine : cosOf (ofBits binary64 0) ≡ ofBits binary64 0x3ff0_0000_0000_0000
+  pub cosine : cosOf (ofBits binary64 0) ≡ f1
   -- the root of 2.25 is 1.5
   pub root : rootOf (ofBits binary64 0x4002_0000_0000_0000) ≡ ofBits binary64 0x3ff8_0000_0000_0000
   -- 1 + 2 ^ -24 narrows to 1
@@ -36,20 +38,11 @@ pub record Numbers : Type 0 where
 
 -- ---- the map of 5 by 5, origin 0, cell 1, all set
 
-abbrev pub one : Float
-one = ofBits binary64 0x3ff0_0000_0000_0000
-
-abbrev pub two : Float
-two = ofBits binary64 0x4000_0000_0000_0000
-
-abbrev pub four : Float
-four = ofBits binary64 0x4010_0000_0000_0000
-
 abbrev pub five : Float
 five = ofBits binary64 0x4014_0000_0000_0000
 
 abbrev pub grid : Grid
-grid = record { origin = v2 f0 f0; cell = one; nx = 5; ny = 5 }
+grid = record { origin = v2 f0 f0; cell = f1; nx = 5; ny = 5 }
 
 abbrev pub full : List ℕ
 full = replicate 25 1
@@ -66,12 +59,12 @@ middle = v2 (ofBits binary64 0x4004_0000_0000_0000) (ofBits binary64 0x4004_0000
 
 -- the crescent from one to the other at radius 1, with a log of its own
 abbrev pub cleared : Stock
-cleared = clearAfter grid before middle one (st full empty 0)
+cleared = clearAfter grid before middle f1 (st full empty 0)
 
 pub record Disks : Type 0 where
   -- clear radius 1 at (2.5, 2.5): 5, then again: 0
-  pub once : clearDisk grid middle one full .removed ≡ 5
-  pub twice : clearDisk grid middle one (clearDisk grid middle one full .cells) .removed ≡ 0
+  pub once : clearDisk grid middle f1 full .removed ≡ 5
+  pub twice : clearDisk grid middle f1 (clearDisk grid middle f1 full .cells) .removed ≡ 0
 
 pub record Crescents : Type 0 where
   -- log 7, 13, 17; standing 22; undone: 25
@@ -79,41 +72,53 @@ pub record Crescents : Type 0 where
   pub standing : ones (cleared .cells) ≡ 22
   pub undone-all : ones (undone (cleared .log) 0 (cleared .count) (cleared .cells)) ≡ 25
   -- from a point to itself: 0
-  pub to-itself : clearAfter grid middle middle one (st full empty 0) .count ≡ 0
+  pub to-itself : clearAfter grid middle middle f1 (st full empty 0) .count ≡ 0
 
 pub record Contacts : Type 0 where
   -- 4 samples become 8; contact at (2.5, 2.5), radius 1: TAU; on an empty map 0
   pub samples : samplesOf 4 ≡ 8
-  pub all : engagementOf grid full middle one 4 ≡ tau
-  pub none : engagementOf grid empty middle one 4 ≡ f0
+  pub all : engagementOf grid full middle f1 4 ≡ tau
+  pub none : engagementOf grid empty middle f1 4 ≡ f0
 
 pub record Cells : Type 0 where
   -- (5, 2) has no cell; (0, 0) has (0, 0)
-  pub off : cellOf grid (v2 five two) ≡ Nothing
+  pub off : cellOf grid (v2 five f2) ≡ Nothing
   pub first : cellOf grid (v2 f0 f0) ≡ At 0 0
 
 -- ---- others
 
 -- the square (0, 0) to (4, 4) as lent vertices, and the grid of cell 1 with margin 2 around it
 abbrev pub corners : List Float
-corners = f0 ∷ f0 ∷ four ∷ f0 ∷ four ∷ four ∷ f0 ∷ four ∷ []
+corners = f0 ∷ f0 ∷ f4 ∷ f0 ∷ f4 ∷ f4 ∷ f0 ∷ f4 ∷ []
 
 abbrev pub square : Region
 square = record { at = 0; first = 0; loops = 1 }
 
 abbrev pub nine : Grid
-nine = record { origin = v2 (ofBits binary64 0xc000_0000_0000_0000) (ofBits binary64 0xc000_0000_0000_0000); cell = one; nx = 9; ny = 9 }
+nine = record { origin = v2 (ofBits binary64 0xc000_0000_0000_0000) (ofBits binary64 0xc000_0000_0000_0000); cell = f1; nx = 9; ny = 9 }
 
 pub record Squares : Type 0 where
   -- 9 by 9, 16 set
-  pub sides : newGrid (v2 f0 f0) (v2 four four) one two ≡ Of nine
+  pub sides : newGrid (v2 f0 f0) (v2 f4 f4) f1 f2 ≡ Of nine
   pub set : ones (fillRegion nine corners (4 ∷ []) square (replicate 81 0)) ≡ 16
+
+-- what `transform` leaves of 18 places, and `distances` of 9
+abbrev pub squares : List ℕ → List ℕ
+squares marks = transformOf 1 marks 3 3 (replicate 18 7)
+
+abbrev pub distances : List ℕ → List Float
+distances marks = distancesOf 9 (squares marks) (replicate 9 nan)
 
 pub record Distances : Type 0 where
   -- one mark mid 3 by 3: squares 2 1 2 / 1 0 1 / 2 1 2
-  pub mid : squaresOf 1 (0 ∷ 0 ∷ 0 ∷ 0 ∷ 1 ∷ 0 ∷ 0 ∷ 0 ∷ 0 ∷ []) 3 3 ≡ 2 ∷ 1 ∷ 2 ∷ 1 ∷ 0 ∷ 1 ∷ 2 ∷ 1 ∷ 2 ∷ []
+  pub mid : take 9 (squares (0 ∷ 0 ∷ 0 ∷ 0 ∷ 1 ∷ 0 ∷ 0 ∷ 0 ∷ 0 ∷ [])) ≡ 2 ∷ 1 ∷ 2 ∷ 1 ∷ 0 ∷ 1 ∷ 2 ∷ 1 ∷ 2 ∷ []
   -- none: all infinite
-  pub none : distanceTransform 1 (replicate 9 0) 3 3 ≡ replicate 9 (inf false)
+  pub none : distances (replicate 9 0) ≡ replicate 9 (inf false)
+
+pub record Passes : Type 0 where
+  -- cell 1: length 100 wants 5, length 60 wants 4
+  pub long : wantedOf (ofBits binary64 0x4059_0000_0000_0000) f1 ≡ 5
+  pub short : wantedOf (ofBits binary64 0x404e_0000_0000_0000) f1 ≡ 4
 
 pub record Table : Type 0 where
   pub numbers : Numbers
@@ -123,3 +128,4 @@ pub record Table : Type 0 where
   pub cells : Cells
   pub squares : Squares
   pub distances : Distances
+  pub passes : Passes
