@@ -4,7 +4,6 @@ pub mod SquareLaws
 pub mod SegmentLaws
 pub mod JoinLaws
 pub mod MarchLaws
-pub mod PieceLaws
 pub mod ChainLaws
 pub mod DedupLaws
 pub mod FollowLaws
@@ -12,11 +11,8 @@ pub mod TraceLaws
 pub mod TableLaws
 pub mod TabulateLaws
 pub mod TourLaws
+pub mod HoldLaws
+pub mod CurveLaws
 pub mod ContourLaws
 pub mod UsedLaws
 pub mod OnceLaws
-pub mod StepLaws
-pub mod SmoothLaws
-pub mod PartLaws
-pub mod AllLaws
-pub mod CurveLaws

@@ -14,8 +14,8 @@ use Rattle.raster.specs.Grid.{Over}
 use Rattle.raster.specs.declared.grid.Grid.{Grid}
 use Rattle.contours.specs.Square.{Joins}
 use Rattle.contours.specs.March.{segmentsOf, march, Gathered}
-use Rattle.contours.specs.Chain.{nothing, tables, joined, tablesOf}
-use Rattle.contours.specs.Traced.{segmentsIn, nextIn, segmentsAt, Below, Listed, Joined, Sized, Tabled}
+use Rattle.contours.specs.Chain.{nothing, tables, inserted, tablesOf}
+use Rattle.contours.specs.Traced.{segmentsIn, nextIn, segmentsAt, Below, Listed, Inserted, Sized, Tabled}
 use Rattle.contours.specs.declared.square.Segment.{Segment}
 use Rattle.contours.proofs.JoinLaws.{march-joins, joins-below}
 
@@ -79,16 +79,16 @@ module _ (g : Grid) (f : List Float) (level : Float) (n m : ℕ) (w marks r : Li
         below = subst (Each (Below (2 * n))) (sym segments-are) (each-all (Joins g) (Below (2 * n)) below-is (march g f level) (march-joins g f level));
       }
 
-  tabled-cleared : (words′ marks′ : List ℕ) → Joined n m cleared unmarked words′ marks′ → Tabled g n (march g f level) m words′ marks′
+  tabled-cleared : (words′ marks′ : List ℕ) → Inserted n m cleared unmarked words′ marks′ → Tabled g n (march g f level) m words′ marks′
   unfolding tablesOf
   tabled-cleared words′ marks′ j =
       let c = z .cells in
       record {
         is = ap (segmentsOf m) (j .kept) ∙ segments-are;
         table = j .is
-            ∙ ap (λ (l : List Segment). over joined l (tables (nextIn n cleared) unmarked)) segments-are
-            ∙ ap (λ (l : List ℕ). over joined (march g f level) (tables l unmarked)) next-is
-            ∙ ap (λ (k : ℕ). over joined (march g f level) (tables (replicate (2 * n) nothing) (replicate k 0))) (z .marks-long);
+            ∙ ap (λ (l : List Segment). over inserted l (tables (nextIn n cleared) unmarked)) segments-are
+            ∙ ap (λ (l : List ℕ). over inserted (march g f level) (tables l unmarked)) next-is
+            ∙ ap (λ (k : ℕ). over inserted (march g f level) (tables (replicate (2 * n) nothing) (replicate k 0))) (z .marks-long);
         few = omega (arith, t .few);
         sized = record {
           cells = c;
@@ -108,10 +108,10 @@ module _ (g : Grid) (f : List Float) (level : Float) (n m : ℕ) (w marks r : Li
         ∙ put-is (4 * n) (6 * n) w₁ (subst (Fits (4 * n) (6 * n)) (sym marched-is) next-fits) u (replicate (length (within (4 * n) (6 * n) w₁)) nothing) b
         ∙ ap (λ (l : List ℕ). put (4 * n) (6 * n) (replicate (length (within (4 * n) (6 * n) l)) nothing) l) marched-is
 
-    -- what `join` asks
+    -- what `insert_all` asks
     pub listed : Listed n m w₂ marks₁
     listed = rw (cleared-is, e) listed-cleared
 
     -- and what is left then
-    pub tabled : (words′ marks′ : List ℕ) → Joined n m w₂ marks₁ words′ marks′ → Tabled g n (march g f level) m words′ marks′
-    tabled words′ marks′ j = tabled-cleared words′ marks′ (subst (λ (l : List ℕ). Joined n m l unmarked words′ marks′) cleared-is (subst (λ (l : List ℕ). Joined n m w₂ l words′ marks′) e j))
+    pub tabled : (words′ marks′ : List ℕ) → Inserted n m w₂ marks₁ words′ marks′ → Tabled g n (march g f level) m words′ marks′
+    tabled words′ marks′ j = tabled-cleared words′ marks′ (subst (λ (l : List ℕ). Inserted n m l unmarked words′ marks′) cleared-is (subst (λ (l : List ℕ). Inserted n m w₂ l words′ marks′) e j))

@@ -16,23 +16,24 @@ use Rattle.geom.specs.Points.{points}
 use Rattle.geom.specs.declared.vec2.Vec2.{Vec2}
 use Rattle.geom.proofs.PointLaws.{points-length, points-same}
 use Rattle.raster.specs.declared.grid.Grid.{Grid}
-use Rattle.contours.specs.Piece.{Piece, row, rowAt, putRow, pieceOf, piecesAt}
-use Rattle.contours.specs.Chain.{Chain, chainFrom, deduped, Chains, chains, pushed, chained, Chaining, Followed}
+use Rattle.pieces.specs.Piece.{Piece, row, rowAt, putRow, pieceOf, piecesAt}
+use Rattle.contours.specs.Chain.{Chain, chainFrom, Chains, chains, chained, Chaining, Followed}
+use Rattle.contours.specs.Curve.{deduped, addedPiece}
 use Rattle.contours.specs.Traced.{segmentsIn, nextIn, rowsIn, Packed, Tracing, Startable, piecesIn, Traced}
-use Rattle.contours.specs.declared.chain.Count.{Count}
-use Rattle.contours.specs.declared.piece.Row.{Row}
-use Rattle.contours.proofs.PieceLaws.{row-here, row-there, row-length, pieces-same, pieces-more}
+use Rattle.pieces.specs.declared.row.Count.{Count}
+use Rattle.pieces.specs.declared.row.Row.{Row}
+use Rattle.pieces.proofs.PieceLaws.{row-here, row-there, row-length, pieces-same, pieces-more}
 
 abbrev count : ℕ → ℕ → Count
 count pieces points = record { pieces = pieces; points = points }
 
-pushed-few : (ps : List Vec2) (closed : Bool) (l : List Piece) → length ps < 2 → pushed ps closed l ≡ l
-unfolding pushed
-pushed-few ps closed l h = rw (lt-ltb (length ps) 2 h) refl
+added-few : (ps : List Vec2) (closed : Bool) (l : List Piece) → length ps < 2 → addedPiece ps closed l ≡ l
+unfolding addedPiece
+added-few ps closed l h = rw (lt-ltb (length ps) 2 h) refl
 
-pushed-piece : (ps : List Vec2) (closed : Bool) (l : List Piece) → 2 ≤ length ps → pushed ps closed l ≡ l ++ (record { points = ps; closed = closed } ∷ [])
-unfolding pushed
-pushed-piece ps closed l h = rw (le-ltb (length ps) 2 h) refl
+added-piece : (ps : List Vec2) (closed : Bool) (l : List Piece) → 2 ≤ length ps → addedPiece ps closed l ≡ l ++ (record { points = ps; closed = closed } ∷ [])
+unfolding addedPiece
+added-piece ps closed l h = rw (le-ltb (length ps) 2 h) refl
 
 -- ---- the parts
 
@@ -76,18 +77,18 @@ module _ (g : Grid) (n : ℕ) (words marks : List ℕ) (pts : List Float) (c : C
     kept-is : length (deduped (map at (from .ids))) ≡ kept
     kept-is = sym (ap length (f .points-is)) ∙ points-length (c .points) kept pts′
 
-    chained-is : chained at (nextIn n words) (length marks) s (chains marks (piecesIn n c words pts)) ≡ chains marks′ (pushed (points (c .points) kept pts′) closed (piecesIn n c words pts′))
+    chained-is : chained at (nextIn n words) (length marks) s (chains marks (piecesIn n c words pts)) ≡ chains marks′ (addedPiece (points (c .points) kept pts′) closed (piecesIn n c words pts′))
     unfolding chained
     chained-is =
-        ap (λ (m : List ℕ). chains m (pushed (deduped (map at (from .ids))) (from .closed) (piecesIn n c words pts))) (sym (f .marks-is))
-        ∙ ap (λ (l : List Vec2). chains marks′ (pushed l (from .closed) (piecesIn n c words pts))) (sym (f .points-is))
-        ∙ ap (λ (b : Bool). chains marks′ (pushed (points (c .points) kept pts′) b (piecesIn n c words pts))) (sym (f .closed-is))
-        ∙ ap (λ (l : List Piece). chains marks′ (pushed (points (c .points) kept pts′) closed l)) (sym old-pieces)
+        ap (λ (m : List ℕ). chains m (addedPiece (deduped (map at (from .ids))) (from .closed) (piecesIn n c words pts))) (sym (f .marks-is))
+        ∙ ap (λ (l : List Vec2). chains marks′ (addedPiece l (from .closed) (piecesIn n c words pts))) (sym (f .points-is))
+        ∙ ap (λ (b : Bool). chains marks′ (addedPiece (points (c .points) kept pts′) b (piecesIn n c words pts))) (sym (f .closed-is))
+        ∙ ap (λ (l : List Piece). chains marks′ (addedPiece (points (c .points) kept pts′) closed l)) (sym old-pieces)
 
     abbrev after : Chains
     after = chained at (nextIn n words) (2 * n) s (chains marks (piecesIn n c words pts))
 
-    after-is : after ≡ chains marks′ (pushed (points (c .points) kept pts′) closed (piecesIn n c words pts′))
+    after-is : after ≡ chains marks′ (addedPiece (points (c .points) kept pts′) closed (piecesIn n c words pts′))
     after-is = ap (λ (e : ℕ). chained at (nextIn n words) e s (chains marks (piecesIn n c words pts))) (sym (h .marks-long)) ∙ chained-is
 
     pub points-few : c .points + kept ≤ 2 * n
@@ -96,7 +97,7 @@ module _ (g : Grid) (n : ℕ) (words marks : List ℕ) (pts : List Float) (c : C
     -- too short for a piece
     pub traced-none : kept < 2 → Traced g n after words pts words marks′ pts′ c
     traced-none b = record {
-      is = sym (after-is ∙ ap (chains marks′) (pushed-few (points (c .points) kept pts′) closed (piecesIn n c words pts′) (omega (arith, points-length (c .points) kept pts′))));
+      is = sym (after-is ∙ ap (chains marks′) (added-few (points (c .points) kept pts′) closed (piecesIn n c words pts′) (omega (arith, points-length (c .points) kept pts′))));
       tracing = record {
         cells = h .cells;
         words-long = h .words-long;
@@ -155,7 +156,7 @@ module _ (g : Grid) (n : ℕ) (words marks : List ℕ) (pts : List Float) (c : C
         record {
           is = ap (λ (r : List ℕ). chains marks′ (piecesAt (c .pieces + 1) r pts′)) back
               ∙ ap (chains marks′) pieces
-              ∙ sym (after-is ∙ ap (chains marks′) (pushed-piece (points (c .points) kept pts′) closed (piecesIn n c words pts′) (omega (arith, points-length (c .points) kept pts′))));
+              ∙ sym (after-is ∙ ap (chains marks′) (added-piece (points (c .points) kept pts′) closed (piecesIn n c words pts′) (omega (arith, points-length (c .points) kept pts′))));
           tracing = record {
             cells = h .cells;
             words-long = len ∙ l;

@@ -13,9 +13,10 @@ use Rattle.raster.specs.declared.grid.Grid.{Grid}
 use Rattle.contours.specs.Edge.{Between}
 use Rattle.contours.specs.March.{segmentsOf}
 use Rattle.contours.specs.declared.square.Segment.{Segment}
-use Rattle.contours.specs.Piece.{Piece, rowAt, piecesAt}
-use Rattle.contours.specs.Chain.{tables, joined, tablesOf, Leads, edge, Chains, chains}
-use Rattle.contours.specs.declared.chain.Count.{Count}
+use Rattle.pieces.specs.Piece.{Piece, rowAt, piecesAt}
+use Rattle.contours.specs.Chain.{tables, inserted, tablesOf, Leads, Chains, chains}
+use Rattle.contours.specs.Edge.{edge}
+use Rattle.pieces.specs.declared.row.Count.{Count}
 
 -- the parts for n cells
 abbrev pub segmentsIn : ℕ → List ℕ → List ℕ
@@ -80,8 +81,8 @@ pub record Listed (n m : ℕ) (words marks : List ℕ) : Type 0 where
   pub below : Each (Below (2 * n)) (segmentsAt n m words)
 
 -- the segments are in the tables, and as they were
-pub record Joined (n m : ℕ) (words marks words′ marks′ : List ℕ) : Type 0 where
-  pub is : tables (nextIn n words′) marks′ ≡ over joined (segmentsAt n m words) (tables (nextIn n words) marks)
+pub record Inserted (n m : ℕ) (words marks words′ marks′ : List ℕ) : Type 0 where
+  pub is : tables (nextIn n words′) marks′ ≡ over inserted (segmentsAt n m words) (tables (nextIn n words) marks)
   pub kept : segmentsIn n words′ ≡ segmentsIn n words
   pub words-long : length words′ ≡ length words
   pub marks-long : length marks′ ≡ length marks
@@ -99,10 +100,14 @@ pub record Tabled (g : Grid) (n : ℕ) (segs : List Segment) (m : ℕ) (words ma
   pub few : m ≤ 2 * n
   pub sized : Sized g n words marks
 
--- The pieces are the list `l`, one behind the other: at most n of them, and at most 2 n points. The slices keep their lengths.
+abbrev pub TwoPoints : Piece → Type 0
+TwoPoints p = 2 ≤ length (p .points)
+
+-- The pieces are the list `l`, one behind the other: at most n of them, each of two points or more, and at most 2 n points. The slices keep their lengths.
 pub record Contoured (n : ℕ) (l : List Piece) (words : List ℕ) (pts : List Float) (words′ : List ℕ) (pts′ : List Float) (c : Count) : Type 0 where
   pub is : piecesIn n c words′ pts′ ≡ l
   pub packed : Packed c (rowsIn n words′)
+  pub two : (k : ℕ) → k < c .pieces → 2 ≤ rowAt (rowsIn n words′) k .points
   pub pieces-few : c .pieces ≤ n
   pub points-few : c .points ≤ 2 * n
   pub words-long : length words′ ≡ length words

@@ -4,16 +4,18 @@ ghost use Prim.Native.Nat.{_+_, _*_, _≤_, _<_};
 ghost use lib.ListN.{length};
 ghost use Rattle.loops.specs.Each.{Each};
 ghost use Rattle.raster.specs.Grid.{Over};
-ghost use Rattle.contours.specs.Chain.{keptOf, putKept, pointAt, Chaining, Followed, edge, chains, chained, startsAt, startAt, chainAll};
+ghost use Rattle.contours.specs.Chain.{extended, putKept, edgePoint, Chaining, Followed, chains, chained, startsAt, startAt, chainAll};
+ghost use Rattle.contours.specs.Edge.{edge};
 ghost use Rattle.contours.specs.Traced.{nextIn, segmentsAt, piecesIn, Startable, Tracing, Traced};
 ghost use Rattle.contours.specs.Edge.{Between};
 ghost use Rattle.contours.specs.Square.{Joins};
 use super::edge::EdgeNo;
 use super::edge::crossing;
-use super::piece::Row;
-use super::piece::put_piece;
 use super::tables::NOTHING;
 use geom::vec2::Vec2;
+use pieces::row::Count;
+use pieces::row::Row;
+use pieces::row::put_row;
 use raster::grid::Grid;
 
 // How many points of a chain are kept, and the last of them.
@@ -25,7 +27,7 @@ pub struct Trail {
 // p is the next point, unless it is near the last one.
 fn extend(pts: &mut [f64], first: usize, t: Trail, p: Vec2) -> Trail
     requires { ⌜ 2 * (first + t .kept) + 1 < length (now pts) ⌝ }
-    ensures { λ r. ⌜ (r ≡ keptOf p t) × (now (pts .exit) ≡ putKept first p t (now (pts .entry))) ⌝ }
+    ensures { λ r. ⌜ (r ≡ extended p t) × (now (pts .exit) ≡ putKept first p t (now (pts .entry))) ⌝ }
 {
     let last = t.last;
     if p.distance(last) < 1e-9 {
@@ -58,7 +60,7 @@ fn chain(
 ) -> Chained
     requires { ⌜ Over g (length (now f)) ⌝ }
     requires { ⌜ Chaining g (now next) (now marks) (now pts) first s ⌝ }
-    ensures { λ r. ⌜ Followed (pointAt g (now (f .entry)) level) (now (next .entry)) (now (marks .entry)) (now (pts .entry)) first s (now (marks .exit)) (now (pts .exit)) (r .kept) (r .closed) ⌝ }
+    ensures { λ r. ⌜ Followed (edgePoint g (now (f .entry)) level) (now (next .entry)) (now (marks .entry)) (now (pts .entry)) first s (now (marks .exit)) (now (pts .exit)) (r .kept) (r .closed) ⌝ }
 {
     let mut cur = s as usize;
     marks[cur] = 1;
@@ -91,12 +93,6 @@ fn chain(
     }
 }
 
-// How many pieces there are, and points in all.
-pub struct Count {
-    pub pieces: usize,
-    pub points: usize,
-}
-
 // The chain from edge s on, a piece if it has two points.
 fn take_up(
     g: Grid,
@@ -112,7 +108,7 @@ fn take_up(
     requires { ⌜ Over g (length (now f)) ⌝ }
     requires { ⌜ Tracing g n (now words) (now marks) (now pts) c ⌝ }
     requires { ⌜ Startable g (now marks) s ⌝ }
-    ensures { λ r. ⌜ Traced g n (chained (pointAt g (now (f .entry)) level) (nextIn n (now (words .entry))) (2 * n) s (chains (now (marks .entry)) (piecesIn n c (now (words .entry)) (now (pts .entry))))) (now (words .entry)) (now (pts .entry)) (now (words .exit)) (now (marks .exit)) (now (pts .exit)) r ⌝ }
+    ensures { λ r. ⌜ Traced g n (chained (edgePoint g (now (f .entry)) level) (nextIn n (now (words .entry))) (2 * n) s (chains (now (marks .entry)) (piecesIn n c (now (words .entry)) (now (pts .entry))))) (now (words .entry)) (now (pts .entry)) (now (words .exit)) (now (marks .exit)) (now (pts .exit)) r ⌝ }
 {
     let first = c.points;
     let k = chain(g, f, level, &words[4 * n..6 * n], marks, pts, first, s);
@@ -121,7 +117,7 @@ fn take_up(
         return c;
     }
     let pieces = c.pieces;
-    put_piece(
+    put_row(
         &mut words[6 * n..9 * n],
         pieces,
         Row {
@@ -159,7 +155,7 @@ fn start_at(
     requires { ⌜ Over g (length (now f)) ⌝ }
     requires { ⌜ Tracing g n (now words) (now marks) (now pts) c ⌝ }
     requires { ⌜ Between g (edge s) ⌝ }
-    ensures { λ r. ⌜ Traced g n (startAt (pointAt g (now (f .entry)) level) (nextIn n (now (words .entry))) (2 * n) first s (chains (now (marks .entry)) (piecesIn n c (now (words .entry)) (now (pts .entry))))) (now (words .entry)) (now (pts .entry)) (now (words .exit)) (now (marks .exit)) (now (pts .exit)) r ⌝ }
+    ensures { λ r. ⌜ Traced g n (startAt (edgePoint g (now (f .entry)) level) (nextIn n (now (words .entry))) (2 * n) first s (chains (now (marks .entry)) (piecesIn n c (now (words .entry)) (now (pts .entry))))) (now (words .entry)) (now (pts .entry)) (now (words .exit)) (now (marks .exit)) (now (pts .exit)) r ⌝ }
 {
     if starts(first, marks[s as usize]) {
         return take_up(g, f, level, n, words, marks, pts, c, s);
@@ -184,7 +180,7 @@ pub fn chain_all(
     requires { ⌜ m ≤ 2 * n ⌝ }
     requires { ⌜ Each (Joins g) (segmentsAt n m (now words)) ⌝ }
     requires { ⌜ Tracing g n (now words) (now marks) (now pts) so ⌝ }
-    ensures { λ r. ⌜ Traced g n (chainAll (pointAt g (now (f .entry)) level) (nextIn n (now (words .entry))) (2 * n) first (segmentsAt n m (now (words .entry))) (chains (now (marks .entry)) (piecesIn n so (now (words .entry)) (now (pts .entry))))) (now (words .entry)) (now (pts .entry)) (now (words .exit)) (now (marks .exit)) (now (pts .exit)) r ⌝ }
+    ensures { λ r. ⌜ Traced g n (chainAll (edgePoint g (now (f .entry)) level) (nextIn n (now (words .entry))) (2 * n) first (segmentsAt n m (now (words .entry))) (chains (now (marks .entry)) (piecesIn n so (now (words .entry)) (now (pts .entry))))) (now (words .entry)) (now (pts .entry)) (now (words .exit)) (now (marks .exit)) (now (pts .exit)) r ⌝ }
 {
     let mut c = so;
     for k in 0..m {

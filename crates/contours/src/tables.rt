@@ -4,7 +4,7 @@ ghost use Prim.Native.Nat.{_*_};
 ghost use lib.ListN.{length};
 ghost use Rattle.raster.specs.Grid.{Over};
 ghost use Rattle.contours.specs.March.{march};
-ghost use Rattle.contours.specs.Traced.{Listed, Joined, Sized, Tabled};
+ghost use Rattle.contours.specs.Traced.{Listed, Inserted, Sized, Tabled};
 use super::march::march;
 use raster::grid::Grid;
 use setup::fill::fill_bytes;
@@ -14,9 +14,9 @@ use setup::fill::fill_words;
 pub const NOTHING: u32 = 4294967295;
 
 // The m segments in turn: of those that leave one edge, the last one counts.
-fn join(n: usize, m: usize, words: &mut [u32], marks: &mut [u8])
+fn insert_all(n: usize, m: usize, words: &mut [u32], marks: &mut [u8])
     requires { ⌜ Listed n m (now words) (now marks) ⌝ }
-    ensures { λ _. ⌜ Joined n m (now (words .entry)) (now (marks .entry)) (now (words .exit)) (now (marks .exit)) ⌝ }
+    ensures { λ _. ⌜ Inserted n m (now (words .entry)) (now (marks .entry)) (now (words .exit)) (now (marks .exit)) ⌝ }
 {
     let next = 4 * n;
     for k in 0..m {
@@ -44,6 +44,6 @@ pub fn tabulate(
     let m = march(g, f, level, &mut words[0..4 * n]);
     fill_words(&mut words[4 * n..6 * n], NOTHING);
     fill_bytes(marks, 0);
-    join(n, m, words, marks);
+    insert_all(n, m, words, marks);
     m
 }

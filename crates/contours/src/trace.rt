@@ -2,11 +2,11 @@
 ghost use Prim.Native.Nat.{_*_, _≤_};
 ghost use lib.ListN.{length};
 ghost use Rattle.raster.specs.Grid.{Over};
-ghost use Rattle.contours.specs.Chain.{contoursOf};
+ghost use Rattle.contours.specs.Curve.{contoursOf};
 ghost use Rattle.contours.specs.Traced.{Sized, Contoured};
-use super::chain::Count;
 use super::chain::chain_all;
 use super::tables::tabulate;
+use pieces::row::Count;
 use raster::grid::Grid;
 
 // The pieces, open ones first: rows in the words, points in `pts`. Marks and words are scratch beside.

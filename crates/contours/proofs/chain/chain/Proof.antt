@@ -13,7 +13,8 @@ use Rattle.geom.specs.declared.vec2.Vec2.{Vec2}
 use Rattle.raster.specs.declared.grid.Grid.{Grid}
 use Rattle.contours.specs.declared.chain.Trail.{Trail}
 use Rattle.contours.specs.Edge.{Between}
-use Rattle.contours.specs.Chain.{nothing, edge, pointAt, Chaining}
+use Rattle.contours.specs.Chain.{nothing, edgePoint, Chaining}
+use Rattle.contours.specs.Edge.{edge}
 use Rattle.contours.proofs.EdgeLaws.{edge-below}
 use Rattle.contours.proofs.FollowLaws.{Following, following-none, following-more, out-open, out-closed, out-used, point-room, first-room}
 use Rattle.contours.proofs.chain.chain.Statement.{statement}
@@ -24,7 +25,7 @@ pub record Inv (at : ℕ → Vec2) (g : Grid) (next marks₀ : List ℕ) (pts₀
   pub following : (m : List ℕ) (w : List Float) → Chaining g next m w first s → s < length m → marks₀ ≡ set m s 1 → pts₀ ≡ putPoint first (at s) w → Following at next m w first s marks pts t cur
 
 abbrev Inv-loop : tie.InvT-loop
-Inv-loop g f level next marks₀ pts₀ first s cur₀ t₀ marks pts cur t = Inv (pointAt g f level) g next marks₀ pts₀ first s marks pts t cur
+Inv-loop g f level next marks₀ pts₀ first s cur₀ t₀ marks pts cur t = Inv (edgePoint g f level) g next marks₀ pts₀ first s marks pts t cur
 
 abbrev μ-loop : tie.MeasureT-loop
 μ-loop g f level next marks₀ pts₀ first s cur₀ t₀ marks pts cur t = length marks₀ - ones marks
@@ -35,7 +36,7 @@ below c n b = omega (arith, edge-below (c .args .g) (edge n) (c .pre .0 .sides) 
 
 -- at each turn, with the slices as they were lent
 follows : (c : tie.At-loop Inv-loop μ-loop) → let a = c .before .before .before .before .before .before .before .before .before .before .args in
-    Following (pointAt (a .g) (a .f .now) (a .level)) (a .next .now) (a .marks .now) (a .pts .now) (a .first) (a .s) (c .loop .marks) (c .loop .pts) (c .loop .t) (c .loop .cur)
+    Following (edgePoint (a .g) (a .f .now) (a .level)) (a .next .now) (a .marks .now) (a .pts .now) (a .first) (a .s) (c .loop .marks) (c .loop .pts) (c .loop .t) (c .loop .cur)
 follows c =
     let p = c .before .before .before .before .before .before .before .before .before .before .pre .1 in
     c .loop .inv .following _ _ p (below (c .before .before .before .before .before .before .before .before .before .before) _ (p .start)) refl (c .before .before .before .put .ensures ∙ ap (λ (q : Vec2). putPoint (c .before .before .before .before .before .before .before .before .before .before .args .first) q (c .before .before .before .before .before .before .before .before .before .before .args .pts .now)) (c .before .before .before .before .before .crossing .ensures))
@@ -61,7 +62,7 @@ put-requires : tie.Need-put-requires Inv-loop μ-loop
 put-requires c κs =
     let p = c .before .before .before .before .before .before .pre .1 in
     let a = c .before .before .before .before .before .before .args in
-    first-room (pointAt (a .g) (a .f .now) (a .level)) (a .next .now) (a .marks .now) (a .pts .now) (a .first) (a .s) (p .room) (below (c .before .before .before .before .before .before) _ (p .start)) (p .unused) (omega (arith, p .marks-long, p .pts-long))
+    first-room (edgePoint (a .g) (a .f .now) (a .level)) (a .next .now) (a .marks .now) (a .pts .now) (a .first) (a .s) (p .room) (below (c .before .before .before .before .before .before) _ (p .start)) (p .unused) (omega (arith, p .marks-long, p .pts-long))
 
 loop-holds : tie.Need-loop-holds Inv-loop μ-loop
 loop-holds c = record {

@@ -4,7 +4,8 @@ use Prim.Native.Nat.{ℕ, _+_, _-_, _*_, _≤_, _<_}
 use native.Mathlib.Omega.{arith}
 use lib.ListN.{length, getD}
 use Rattle.contours.specs.Square.{segment, Joins}
-use Rattle.contours.specs.Chain.{edge, chains, pointAt}
+use Rattle.contours.specs.Chain.{chains, edgePoint}
+use Rattle.contours.specs.Edge.{edge}
 use Rattle.contours.specs.Traced.{piecesIn, Traced}
 use Rattle.contours.specs.declared.square.Segment.{Segment}
 use Rattle.contours.proofs.TableLaws.{segment-read, segment-each}
@@ -13,7 +14,7 @@ use Rattle.contours.proofs.chain.chain_all.Statement.{statement}
 use Rattle.contours.proofs.chain.chain_all.Tie as tie
 
 abbrev Inv-loop : tie.InvT-loop
-Inv-loop g f level n m words₀ marks₀ pts₀ first c₀ k₀ words marks pts c k = Traced g n (toured (pointAt g f level) g n first words₀ pts₀ (chains marks₀ (piecesIn n c₀ words₀ pts₀)) k) words₀ pts₀ words marks pts c × (k ≤ m)
+Inv-loop g f level n m words₀ marks₀ pts₀ first c₀ k₀ words marks pts c k = Traced g n (toured (edgePoint g f level) g n first words₀ pts₀ (chains marks₀ (piecesIn n c₀ words₀ pts₀)) k) words₀ pts₀ words marks pts c × (k ≤ m)
 
 abbrev μ-loop : tie.MeasureT-loop
 μ-loop g f level n m words₀ marks₀ pts₀ first c₀ k₀ words marks pts c k = m - k
@@ -57,7 +58,7 @@ loop-again c =
     let l = c .before .before .before .before .before .before .before .before .before .before .before .before .loop in
     let a = c .before .before .before .before .before .before .before .before .before .before .before .before .before .before .before .before .before .args in
     let h = placed (c .before .before .before .before .before .before .before .before .before .before .before) in (
-      tour-more (pointAt (a .g) (a .f .now) (a .level)) (a .g) (a .n) (a .first) (a .words .now) (a .pts .now) _ (l .k) (l .words) (l .marks) (l .pts) (l .c) (l .inv .0) _
+      tour-more (edgePoint (a .g) (a .f .now) (a .level)) (a .g) (a .n) (a .first) (a .words .now) (a .pts .now) _ (l .k) (l .words) (l .marks) (l .pts) (l .c) (l .inv .0) _
           (sym (ap (λ (s : Segment). s .from .0) (segment-read (a .n) (l .k) (a .words .now) (l .words) (l .inv .0 .segments-kept) (h .0)))) _ _ _ _ (c .before .before .before .before .before .before .start-at .ensures),
       omega (arith, c .before .before .before .before .before .before .before .before .before .before .before .loop-test .taken),
     )
@@ -76,7 +77,7 @@ returns c =
     let l = c .before .loop in
     let a = c .before .before .before .before .before .before .args in
     subst
-    (λ (k : ℕ). Traced (a .g) (a .n) (toured (pointAt (a .g) (a .f .now) (a .level)) (a .g) (a .n) (a .first) (a .words .now) (a .pts .now) (chains (a .marks .now) (piecesIn (a .n) (a .so) (a .words .now) (a .pts .now))) k) (a .words .now) (a .pts .now) (l .words) (l .marks) (l .pts) (l .c))
+    (λ (k : ℕ). Traced (a .g) (a .n) (toured (edgePoint (a .g) (a .f .now) (a .level)) (a .g) (a .n) (a .first) (a .words .now) (a .pts .now) (chains (a .marks .now) (piecesIn (a .n) (a .so) (a .words .now) (a .pts .now))) k) (a .words .now) (a .pts .now) (l .words) (l .marks) (l .pts) (l .c))
     (let z : l .k ≡ a .m = omega (arith, l .inv .1, c .loop-test .left) in z)
     (l .inv .0)
 

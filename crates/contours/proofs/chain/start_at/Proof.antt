@@ -2,7 +2,7 @@
 use mathlib.Core.Path.{sym, _∙_}
 use native.Mathlib.Omega.{arith}
 use lib.ListN.{getD}
-use Rattle.contours.specs.Chain.{pointAt}
+use Rattle.contours.specs.Chain.{edgePoint}
 use Rattle.contours.proofs.EdgeLaws.{edge-below}
 use Rattle.contours.proofs.TourLaws.{traced-start, traced-pass, unused-start}
 use borrow.Author.Needs.{needs}
@@ -30,13 +30,13 @@ same-length-3 c = search needs
 returns : tie.Need-returns
 returns c =
     let a = c .before .before .before .before .before .before .before .before .before .before .before .before .before .before .before .before .before .args in
-    traced-start (pointAt (a .g) (a .f .now) (a .level)) (a .g) (a .n) (a .first) (a .s) (a .words .now) (a .marks .now) (a .pts .now) (a .c) (sym (c .before .before .before .before .before .before .before .before .before .before .before .starts .ensures) ∙ c .before .before .before .before .before .before .before .before .before .before .if1 .taken) _ _ _ _
+    traced-start (edgePoint (a .g) (a .f .now) (a .level)) (a .g) (a .n) (a .first) (a .s) (a .words .now) (a .marks .now) (a .pts .now) (a .c) (sym (c .before .before .before .before .before .before .before .before .before .before .before .starts .ensures) ∙ c .before .before .before .before .before .before .before .before .before .before .if1 .taken) _ _ _ _
     (c .before .before .before .before .before .before .take-up .ensures)
 
 returns-2 : tie.Need-returns-2
 returns-2 c =
     let a = c .before .before .before .before .before .before .before .args in
-    traced-pass (pointAt (a .g) (a .f .now) (a .level)) (a .g) (a .n) (a .first) (a .s) (a .words .now) (a .marks .now) (a .pts .now) (a .c) (sym (c .before .starts .ensures) ∙ c .if1 .left) (c .before .before .before .before .before .before .before .pre .1 .0)
+    traced-pass (edgePoint (a .g) (a .f .now) (a .level)) (a .g) (a .n) (a .first) (a .s) (a .words .now) (a .marks .now) (a .pts .now) (a .c) (sym (c .before .starts .ensures) ∙ c .if1 .left) (c .before .before .before .before .before .before .before .pre .1 .0)
 
 pub start-at-spec : {M : Type 1} → statement M
 start-at-spec =

@@ -42,23 +42,23 @@ returns : tie.Need-returns
 unfolding within
 returns c = traced-none _ _ _ _ _ _ (c .before .before .before .before .before .before .before .before .before .before .before .before .before .before .pre .1 .0) _ _ _ _ _ _ (c .before .before .before .before .before .chain .ensures) (c .if1 .taken)
 
-mul-put-piece : tie.Need-mul-put-piece
-mul-put-piece c = search needs
+mul-put-row : tie.Need-mul-put-row
+mul-put-row c = search needs
 
-mul-put-piece-2 : tie.Need-mul-put-piece-2
-mul-put-piece-2 c = search needs
+mul-put-row-2 : tie.Need-mul-put-row-2
+mul-put-row-2 c = search needs
 
-mul-put-piece-3 : tie.Need-mul-put-piece-3
-mul-put-piece-3 c = search needs
+mul-put-row-3 : tie.Need-mul-put-row-3
+mul-put-row-3 c = search needs
 
-sub-put-piece : tie.Need-sub-put-piece
-sub-put-piece c = search needs
+sub-put-row : tie.Need-sub-put-row
+sub-put-row c = search needs
 
-part-put-piece-start : tie.Need-part-put-piece-start
-part-put-piece-start c = search needs
+part-put-row-start : tie.Need-part-put-row-start
+part-put-row-start c = search needs
 
-part-put-piece-end : tie.Need-part-put-piece-end
-part-put-piece-end c = search needs
+part-put-row-end : tie.Need-part-put-row-end
+part-put-row-end c = search needs
 
 cast-t30 : tie.Need-cast-t30
 unfolding within
@@ -68,9 +68,9 @@ cast-t31 : tie.Need-cast-t31
 unfolding within
 cast-t31 c = let p = c .before .before .before .before .before .before .before .before .before .before .before .before .before .before .before .pre in omega (arith, p .0 .sides .cells, p .1 .0 .cells, p .1 .0 .pairs, points-few _ _ _ _ _ _ (p .1 .0) _ _ _ _ _ _ (c .before .before .before .before .before .before .chain .ensures))
 
-put-piece-requires : tie.Need-put-piece-requires
+put-row-requires : tie.Need-put-row-requires
 unfolding within
-put-piece-requires c κs = row-room _ _ _ _ _ _ (c .before .before .before .before .before .before .before .before .before .before .before .before .before .before .before .pre .1 .0) _ _ _ _ _ _ (c .before .before .before .before .before .before .chain .ensures) (c .before .if1 .left)
+put-row-requires c κs = row-room _ _ _ _ _ _ (c .before .before .before .before .before .before .before .before .before .before .before .before .before .before .before .pre .1 .0) _ _ _ _ _ _ (c .before .before .before .before .before .before .chain .ensures) (c .before .if1 .left)
 
 add-t14 : tie.Need-add-t14
 unfolding within
@@ -91,7 +91,7 @@ same-length-6 c = search needs
 
 returns-2 : tie.Need-returns-2
 unfolding within
-returns-2 c = traced-more _ _ _ _ _ _ (c .before .before .before .before .before .before .before .before .before .before .before .before .before .before .before .before .before .before .pre .1 .0) _ _ _ _ _ _ (c .before .before .before .before .before .before .before .before .before .chain .ensures) (c .before .before .before .before .if1 .left) _ (put-is _ _ _ (record { start = omega arith; end = omega (arith, c .before .before .before .before .before .before .before .before .before .before .before .before .before .before .before .before .before .before .pre .1 .0 .words-long) }) _ _ (c .before .before .put-piece .ensures))
+returns-2 c = traced-more _ _ _ _ _ _ (c .before .before .before .before .before .before .before .before .before .before .before .before .before .before .before .before .before .before .pre .1 .0) _ _ _ _ _ _ (c .before .before .before .before .before .before .before .before .before .chain .ensures) (c .before .before .before .before .if1 .left) _ (put-is _ _ _ (record { start = omega arith; end = omega (arith, c .before .before .before .before .before .before .before .before .before .before .before .before .before .before .before .before .before .before .pre .1 .0 .words-long) }) _ _ (c .before .before .put-row .ensures))
 
 pub take-up-spec : {M : Type 1} → statement M
 take-up-spec =
@@ -108,15 +108,15 @@ take-up-spec =
     same-length-2
     same-length-3
     returns
-    mul-put-piece
-    mul-put-piece-2
-    mul-put-piece-3
-    sub-put-piece
-    part-put-piece-start
-    part-put-piece-end
+    mul-put-row
+    mul-put-row-2
+    mul-put-row-3
+    sub-put-row
+    part-put-row-start
+    part-put-row-end
     cast-t30
     cast-t31
-    put-piece-requires
+    put-row-requires
     add-t14
     add-t15
     same-length-4

@@ -45,9 +45,9 @@ fill-words-requires c κs = search needs
 fill-bytes-requires : tie.Need-fill-bytes-requires
 fill-bytes-requires c κs = search needs
 
-join-requires : tie.Need-join-requires
+insert-all-requires : tie.Need-insert-all-requires
 unfolding within
-join-requires c κs =
+insert-all-requires c κs =
     let a = c .before .before .before .before .before .before .before .before .before .before .before .before .before .before .before .before .before .args in
     let p = c .before .before .before .before .before .before .before .before .before .before .before .before .before .before .before .before .before .pre in
     listed (a .g) (a .f .now) (a .level) (a .n) _ (a .words .now) (a .marks .now) _ (p .0) (p .1) (c .before .before .before .before .before .before .before .before .before .before .before .before .march .ensures) _ _ _ _
@@ -71,7 +71,7 @@ returns c =
     refl
     (c .before .before .before .before .before .before .before .before .before .before .before .before .before .fill-words .ensures)
     refl
-    (c .before .before .before .before .before .before .before .before .before .fill-bytes .ensures) _ _ (c .before .before .before .before .join .ensures)
+    (c .before .before .before .before .before .before .before .before .before .fill-bytes .ensures) _ _ (c .before .before .before .before .insert-all .ensures)
 
 pub tabulate-spec : {M : Type 1} → statement M
 tabulate-spec =
@@ -90,7 +90,7 @@ tabulate-spec =
     part-fill-words-end
     fill-words-requires
     fill-bytes-requires
-    join-requires
+    insert-all-requires
     same-length
     same-length-2
     returns)

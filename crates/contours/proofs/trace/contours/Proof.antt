@@ -36,7 +36,7 @@ returns c =
     let a = c .before .before .before .before .before .before .before .before .before .before .before .before .before .before .before .before .before .before .before .before .before .before .before .before .before .before .before .before .before .before .before .args in
     let t = c .before .before .before .before .before .before .before .before .before .before .before .before .before .before .before .before .before .before .before .before .before .before .before .before .tabulate .ensures in
     let u = c .before .before .before .before .before .before .before .before .before .before .before .before .before .before .before .before .chain-all .ensures in
-    contoured (a .g) (a .f .now) (a .level) (a .n) _ _ _ t _ _ _ _ _ u (a .words .now) (t .sized .words-long ∙ sym (c .before .before .before .before .before .before .before .before .before .before .before .before .before .before .before .before .before .before .before .before .before .before .before .before .before .before .before .before .before .before .before .pre .1 .0 .words-long)) _ _ _ _ (c .before .before .before .before .before .before .chain-all2 .ensures)
+    contoured (a .g) (a .f .now) (a .level) (a .n) _ _ _ t _ _ _ _ _ u (c .before .before .before .before .before .before .before .before .before .before .before .before .before .before .before .before .before .before .before .before .before .before .before .before .before .before .before .before .before .before .before .pre .0 .sides) (a .words .now) (t .sized .words-long ∙ sym (c .before .before .before .before .before .before .before .before .before .before .before .before .before .before .before .before .before .before .before .before .before .before .before .before .before .before .before .before .before .before .before .pre .1 .0 .words-long)) _ _ _ _ (c .before .before .before .before .before .before .chain-all2 .ensures)
 
 pub contours-spec : {M : Type 1} → statement M
 contours-spec =
