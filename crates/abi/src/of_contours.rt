@@ -5,7 +5,8 @@ ghost use lib.ListN.{length};
 ghost use Rattle.raster.specs.Grid.{Over};
 ghost use Rattle.pieces.specs.Piece.{piecesAt, Laid};
 ghost use Rattle.contours.specs.Curve.{contoursOf};
-ghost use Rattle.contours.specs.Traced.{rowsIn, Sized};
+ghost use Rattle.contours.specs.Places.{rowsIn};
+ghost use Rattle.contours.specs.Traced.{Sized};
 ghost use Rattle.smoothing.specs.Smooth.{SmoothedAll};
 ghost use Rattle.abi.specs.Raster.{grid};
 use geom::vec2::Vec2;
@@ -37,7 +38,7 @@ pub extern "C" fn contours_trace(
         nx,
         ny,
     };
-    let c = contours::trace::contours(g, f, level, ny * nx, words, marks, pts);
+    let c = contours::trace::contours(g, f, level, words, marks, pts);
     c.pieces
 }
 

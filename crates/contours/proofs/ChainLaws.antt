@@ -14,7 +14,8 @@ use Rattle.loops.proofs.CellLaws.{ones-le, ones-mark}
 use Rattle.loops.proofs.SetLaws.{set-either}
 use Rattle.loops.proofs.EachLaws.{over-keeps}
 use Rattle.contours.specs.declared.square.Segment.{Segment}
-use Rattle.contours.specs.Chain.{nothing, Tables, inserted, blank, tablesOf, Leads, Walk, Chain, walk, stepTo, follow, walkFrom}
+use Rattle.contours.specs.Chain.{Tables, inserted, blank, tablesOf, Leads, Walk, Chain, walk, stepTo, follow, walkFrom}
+use Rattle.contours.specs.Edge.{nothing}
 
 -- ---- the tables
 

@@ -14,7 +14,7 @@ use Rattle.loops.proofs.RegionLaws.{region-long}
 use Rattle.geom.specs.declared.vec2.Vec2.{Vec2}
 use Rattle.raster.specs.Grid.{Sides}
 use Rattle.raster.specs.declared.grid.Grid.{Grid}
-use Rattle.contours.specs.Edge.{Between}
+use Rattle.contours.specs.Edge.{Between, edge}
 use Rattle.contours.specs.Square.{Joins}
 use Rattle.contours.specs.March.{segmentsOf, march}
 use Rattle.geom.proofs.PointLaws.{points-length}
@@ -22,8 +22,8 @@ use Rattle.pieces.specs.Piece.{Piece, rowAt, pieceOf, piecesAt, Laid}
 use Rattle.pieces.proofs.PieceLaws.{each-piece}
 use Rattle.contours.specs.Chain.{Tables, tables, tablesOf, Leads, edgePoint, Chains, chains, chainAll, chainedPieces}
 use Rattle.contours.specs.Curve.{contoursOf}
-use Rattle.contours.specs.Edge.{edge}
-use Rattle.contours.specs.Traced.{nextIn, rowsIn, piecesIn, segmentsAt, Tracing, Traced, Tabled, TwoPoints, Contoured}
+use Rattle.contours.specs.Traced.{piecesIn, segmentsAt, Tracing, Traced, Tabled, TwoPoints, Contoured}
+use Rattle.contours.specs.Places.{rowsAt, wordsEnd, nextIn, rowsIn}
 use Rattle.pieces.specs.declared.row.Count.{Count}
 use Rattle.contours.specs.declared.square.Segment.{Segment}
 use Rattle.contours.proofs.JoinLaws.{march-joins}
@@ -101,13 +101,18 @@ module _ (g : Grid) (f : List Float) (level : Float) (n m : ℕ) (w m₁ : List 
           pts-long = u .pts-long ∙ t .pts-long;
         }
 
+-- for the number of cells that the grid has
+pub contoured-cells : (g : Grid) (n : ℕ) (l : List Piece) (words : List ℕ) (pts : List Float) (words′ : List ℕ) (pts′ : List Float) (c : Count) → n ≡ g .ny * g .nx
+    → Contoured n l words pts words′ pts′ c → Contoured (g .ny * g .nx) l words pts words′ pts′ c
+contoured-cells g n l words pts words′ pts′ c e = subst (λ (k : ℕ). Contoured k l words pts words′ pts′ c) e
+
 -- ---- the pieces of a contour are laid so
 
-pub contoured-laid : (n : ℕ) (l : List Piece) (words : List ℕ) (pts : List Float) (words′ : List ℕ) (pts′ : List Float) (c : Count) → length words ≡ 9 * n → 4 * n ≤ length pts
+pub contoured-laid : (n : ℕ) (l : List Piece) (words : List ℕ) (pts : List Float) (words′ : List ℕ) (pts′ : List Float) (c : Count) → length words ≡ wordsEnd n → 4 * n ≤ length pts
     → Contoured n l words pts words′ pts′ c → Laid (c .pieces) (rowsIn n words′) pts′
 unfolding within
 contoured-laid n l words pts words′ pts′ c w p r =
-    let rows : length (rowsIn n words′) ≡ 9 * n - 6 * n = region-long (6 * n) (9 * n) words′ (record { start = omega arith; end = omega (arith, r .words-long) }) in
+    let rows : length (rowsIn n words′) ≡ wordsEnd n - rowsAt n = region-long (rowsAt n) (wordsEnd n) words′ (record { start = omega arith; end = omega (arith, r .words-long) }) in
     record {
       lent = omega (arith, rows, r .pieces-few);
       inside = λ k h. omega (arith, r .packed .within k h, r .points-few, r .pts-long);

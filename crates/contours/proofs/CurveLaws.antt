@@ -15,11 +15,11 @@ use Rattle.loops.proofs.Cases.{by-test}
 use Rattle.geom.specs.declared.vec2.Vec2.{Vec2}
 use Rattle.raster.specs.declared.grid.Grid.{Grid}
 use Rattle.pieces.specs.Piece.{Piece}
-use Rattle.contours.specs.Edge.{edge, crossingAt}
+use Rattle.contours.specs.Edge.{edge, crossingAt, nothing}
 use Rattle.contours.specs.Square.{segment}
 use Rattle.contours.specs.March.{march}
 use Rattle.contours.specs.Curve.{EdgeMap, with, mapped, isSome, Joints, jointed, unjointed, jointsOf, goTo, goOn, curveOf, curveFrom, deduped, Curves, curves, addedPiece, openStarts, firsts, curved, startFrom, piecesOf, contoursOf}
-use Rattle.contours.specs.Chain.{nothing, inserted, tablesOf}
+use Rattle.contours.specs.Chain.{inserted, tablesOf}
 use Rattle.contours.specs.Traced.{Below, TwoPoints}
 use Rattle.contours.specs.declared.edge.EdgeNo.{EdgeNo}
 use Rattle.contours.specs.declared.square.Segment.{Segment}

@@ -18,7 +18,8 @@ use Rattle.geom.specs.Region.{vertexOf}
 use Rattle.geom.specs.Points.{points, putPoint}
 use Rattle.geom.specs.declared.vec2.Vec2.{Vec2}
 use Rattle.geom.proofs.PointLaws.{points-length, points-more, put-there, put-length}
-use Rattle.contours.specs.Chain.{nothing, Walk, Chain, walk, ended, stepTo, follow, chainOf, walkFrom, chainFrom, lastFrom, extended, putKept, Trailing, Followed}
+use Rattle.contours.specs.Chain.{Walk, Chain, walk, ended, stepTo, follow, chainOf, walkFrom, chainFrom, lastFrom, extended, putKept, Trailing, Followed}
+use Rattle.contours.specs.Edge.{nothing}
 use Rattle.contours.specs.Curve.{near, thinned, deduped}
 use Rattle.contours.specs.declared.chain.Trail.{Trail}
 use Rattle.contours.proofs.ChainLaws.{Walked, walked-none, walked-more, walked-room}

@@ -19,11 +19,11 @@ use Rattle.geom.specs.declared.vec2.Vec2.{Vec2}
 use Rattle.raster.specs.Grid.{Sides}
 use Rattle.raster.specs.declared.grid.Grid.{Grid}
 use Rattle.pieces.specs.Piece.{Piece}
-use Rattle.contours.specs.Edge.{edge, crossingAt}
+use Rattle.contours.specs.Edge.{edge, crossingAt, nothing}
 use Rattle.contours.specs.Square.{Joins}
 use Rattle.contours.specs.March.{march}
 use Rattle.contours.specs.Curve.{EdgeSet, EdgeMap, with, mapped, isSome, Joints, jointed, unjointed, jointsOf, Way, Curve, way, curve, goneTo, goTo, goOn, wayFrom, curveOf, curveFrom, deduped, Curves, curves, addedPiece, openStarts, firsts, curved, startFrom, piecesOf, contoursOf}
-use Rattle.contours.specs.Chain.{nothing, Tables, tables, inserted, blank, tablesOf, Walk, Chain, walk, ended, stepTo, follow, chainOf, walkFrom, chainFrom, edgePoint, Chains, chains, startsAt, chained, startAt, chainAll, chainedPieces}
+use Rattle.contours.specs.Chain.{Tables, tables, inserted, blank, tablesOf, Walk, Chain, walk, ended, stepTo, follow, chainOf, walkFrom, chainFrom, edgePoint, Chains, chains, startsAt, chained, startAt, chainAll, chainedPieces}
 use Rattle.contours.specs.Held.{markOf, HoldsMarks, orNothing, LeadsTo, HoldsNext, HoldsTables}
 use Rattle.contours.specs.Traced.{Below}
 use Rattle.contours.specs.declared.edge.EdgeNo.{EdgeNo}

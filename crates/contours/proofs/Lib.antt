@@ -8,6 +8,7 @@ pub mod ChainLaws
 pub mod DedupLaws
 pub mod FollowLaws
 pub mod TraceLaws
+pub mod PlaceLaws
 pub mod TableLaws
 pub mod TabulateLaws
 pub mod TourLaws

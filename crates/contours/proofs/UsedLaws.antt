@@ -12,7 +12,8 @@ use Rattle.loops.specs.Each.{Each}
 use Rattle.loops.specs.Loop.{Run, on, out, turn}
 use Rattle.loops.proofs.LoopLaws.{loop-keeps}
 use Rattle.loops.proofs.Cases.{by-cases, by-test, never, neither, or-false}
-use Rattle.contours.specs.Chain.{nothing, Leads, Walk, Chain, walk, stepTo, follow, chainOf, walkFrom, chainFrom}
+use Rattle.contours.specs.Chain.{Leads, Walk, Chain, walk, stepTo, follow, chainOf, walkFrom, chainFrom}
+use Rattle.contours.specs.Edge.{nothing}
 use Rattle.contours.specs.Used.{used, has, Once, Follows, Owns}
 
 -- ---- lists of numbers

@@ -4,7 +4,7 @@ use mathlib.Core.Bool.{Bool, true, false, cond, _||_}
 use mathlib.Core.List.{List, [], _∷_, _++_, map}
 use mathlib.Core.Option.{Option, none, some}
 use lib.ListN.{length}
-use lib.Dec.{eqb, ltb}
+use lib.Dec.{ltb}
 use lib.Ieee.{Float, binary64, ofBits, lt}
 use Rattle.loops.specs.Each.{over}
 use Rattle.loops.specs.Loop.{loop, Run, on, out, turn}
@@ -12,15 +12,12 @@ use Rattle.geom.specs.Vec.{distanceOf}
 use Rattle.geom.specs.declared.vec2.Vec2.{Vec2}
 use Rattle.raster.specs.declared.grid.Grid.{Grid}
 use Rattle.pieces.specs.Piece.{Piece}
-use Rattle.contours.specs.Edge.{crossingAt}
+use Rattle.contours.specs.Edge.{sameEdge, crossingAt}
 use Rattle.contours.specs.March.{march}
 use Rattle.contours.specs.declared.edge.EdgeNo.{EdgeNo}
 use Rattle.contours.specs.declared.square.Segment.{Segment}
 
 -- ---- HashSet and HashMap of edges
-
-abbrev pub sameEdge : EdgeNo → EdgeNo → Bool
-sameEdge a b = eqb (a .0) (b .0)
 
 -- whether an edge is in the set
 abbrev pub EdgeSet : Type 0

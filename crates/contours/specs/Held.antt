@@ -5,9 +5,9 @@ use mathlib.Core.Bool.{Bool, false, cond}
 use mathlib.Core.List.{List}
 use mathlib.Core.Option.{Option, none, some}
 use lib.ListN.{length, getD}
-use Rattle.contours.specs.Edge.{edge}
+use Rattle.contours.specs.Edge.{edge, nothing}
 use Rattle.contours.specs.Curve.{EdgeSet, EdgeMap, Joints}
-use Rattle.contours.specs.Chain.{nothing, Tables}
+use Rattle.contours.specs.Chain.{Tables}
 use Rattle.contours.specs.declared.edge.EdgeNo.{EdgeNo}
 
 -- the byte of an edge that is used or not, and led into or not

@@ -5,5 +5,6 @@ pub mod March
 pub mod Curve
 pub mod Chain
 pub mod Held
+pub mod Places
 pub mod Traced
 pub mod Used

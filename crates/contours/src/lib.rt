@@ -2,6 +2,7 @@
 mod chain;
 mod edge;
 mod march;
+mod places;
 mod square;
 mod tables;
 pub mod trace;

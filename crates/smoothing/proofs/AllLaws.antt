@@ -9,6 +9,7 @@ use lib.Dec.{eqb, ltb}
 use lib.Ieee.{Float}
 use borrow.Author.Tests.{eqb-true, eqb-false, ltb-true, ltb-false}
 use Rattle.loops.proofs.Cases.{by-cases}
+use Rattle.loops.proofs.EachLaws.{map-more}
 use Rattle.geom.specs.Points.{points}
 use Rattle.geom.specs.declared.vec2.Vec2.{Vec2}
 use Rattle.geom.proofs.PointLaws.{points-same}
@@ -22,13 +23,10 @@ pub record SmoothedTo (m : ℕ) (cell : Float) (rows : List ℕ) (pts : List Flo
   pub most : k ≤ m
   pub pieces : piecesAt k rows′ pts′ ≡ map (smoothed cell) (piecesAt k rows pts)
   pub rest : (j : ℕ) → k ≤ j → j < m → pieceOf (rowAt rows′ j) pts′ ≡ pieceOf (rowAt rows j) pts
+  pub some : (j : ℕ) → j < m → 0 < rowAt rows j .points → 0 < rowAt rows′ j .points
   pub laid : Laid m rows′ pts′
   pub rows-long : length rows′ ≡ length rows
   pub points-long : length pts′ ≡ length pts
-
-map-push : {A B : Type 0} (f : A → B) (l : List A) (x : A) → map f (l ++ (x ∷ [])) ≡ map f l ++ (f x ∷ [])
-map-push f [] x = refl
-map-push f (y ∷ l) x = ap (λ (q : List _). f y ∷ q) (map-push f l x)
 
 piece-is : (f n g m : ℕ) (b : Bool) (v w : List Float) → points f n v ≡ points g m w → pieceOf (row f n b) v ≡ pieceOf (row g m b) w
 unfolding pieceOf
@@ -37,13 +35,14 @@ piece-is f n g m b v w e = ap (λ (l : List Vec2). (let p : Piece = record { poi
 module _ (m : ℕ) (cell : Float) (rows : List ℕ) (pts : List Float) where
   pub smoothed-none : Laid m rows pts → SmoothedTo m cell rows pts 0 rows pts
   unfolding piecesAt
-  smoothed-none h = record { most = omega arith; pieces = refl; rest = λ j a b. refl; laid = h; rows-long = refl; points-long = refl }
+  smoothed-none h = record { most = omega arith; pieces = refl; rest = λ j a b. refl; some = λ j a b. b; laid = h; rows-long = refl; points-long = refl }
 
   pub smoothed-end : (k : ℕ) (rows′ : List ℕ) (pts′ : List Float) → m ≤ k → SmoothedTo m cell rows pts k rows′ pts′ → SmoothedAll m cell rows pts rows′ pts′
   smoothed-end k rows′ pts′ h s =
       let e : k ≡ m = omega (arith, s .most) in
       record {
         pieces = subst (λ (n : ℕ). piecesAt n rows′ pts′ ≡ map (smoothed cell) (piecesAt n rows pts)) e (s .pieces);
+        some = s .some;
         laid = s .laid;
         rows-long = s .rows-long;
         points-long = s .points-long;
@@ -88,8 +87,13 @@ module _ (m : ℕ) (cell : Float) (rows : List ℕ) (pts : List Float) where
           subst (λ (n : ℕ). piecesAt n rows″ pts″ ≡ map (smoothed cell) (piecesAt n rows pts)) (let z : suc k ≡ k + 1 = omega arith in z)
           (ap (λ (l : List Piece). l ++ (pieceOf (rowAt rows″ k) pts″ ∷ [])) (pieces-same k rows″ rows′ pts″ pts′ (λ j b. kept j (omega arith) (λ e. omega arith)) ∙ s .pieces)
           ∙ ap (λ (q : Piece). map (smoothed cell) (piecesAt k rows pts) ++ (q ∷ [])) done
-          ∙ sym (map-push (smoothed cell) (piecesAt k rows pts) (pieceOf (rowAt rows k) pts)));
+          ∙ sym (map-more (smoothed cell) (piecesAt k rows pts) (pieceOf (rowAt rows k) pts)));
       rest = λ j b c. kept j c (λ e. omega arith) ∙ s .rest j (omega arith) c;
+      some = λ j b d. by-cases (eqb j k)
+          (λ e. let z = eqb-true j k e in
+          subst (λ (n : ℕ). 0 < n) (sym (ap (λ (i : ℕ). rowAt rows″ i .points) z ∙ ap (λ (q : Row). q .points) here))
+          (P .some (subst (λ (i : ℕ). 0 < rowAt rows′ i .points) z (s .some j b d))))
+          (λ e. subst (λ (q : Row). 0 < q .points) (sym (there j (eqb-false j k e))) (s .some j b d));
       laid = record {
         lent = omega (arith, s .laid .lent, ap length R, row-length k (cutTo r (rowAt rows′ k)) rows′);
         inside = λ j b. let z = s .laid .inside j b in omega (arith, ends j, P .long);

@@ -111,6 +111,12 @@ resampled-first true cell ps = kept-starts cell ps .first
 resampled-first false cell ps =
     by-cases (samePoint (lastPoint (spaced cell ps)) (lastPoint ps)) (λ t. rw t (kept-starts cell ps .first)) (λ t. rw t (push-starts (nth ps 0) (lastPoint ps) (spaced cell ps) (kept-starts cell ps) .first))
 
+resampled-some : (closed : Bool) (cell : Float) (ps : List Vec2) → 0 < length (resampled closed cell ps)
+unfolding resampled endedAt
+resampled-some true cell ps = kept-starts cell ps .some
+resampled-some false cell ps =
+    by-cases (samePoint (lastPoint (spaced cell ps)) (lastPoint ps)) (λ t. rw t (kept-starts cell ps .some)) (λ t. rw t (push-starts (nth ps 0) (lastPoint ps) (spaced cell ps) (kept-starts cell ps) .some))
+
 -- it ends at the last point, or at one that equals it as floats do
 abbrev pub EndsAt : Vec2 → List Vec2 → Type 0
 EndsAt p out = (lastPoint out ≡ p) ⊎ (samePoint (lastPoint out) p ≡ true)
@@ -136,6 +142,11 @@ module _ (cell : Float) (ps : List Vec2) where
   unfolding smoothOf
   smooth-most closed = by-cases (ltb (length ps) 3) (λ t. rw t (omega arith))
       (λ t. rw t (omega (arith, three-count closed ps, ltb-false (length ps) 3 t, resampled-few closed cell (loop (λ i q. averaged closed q) 0 3 ps) (omega (arith, three-count closed ps, ltb-false (length ps) 3 t)))))
+
+  -- a piece with points keeps one at least
+  pub smooth-some : (closed : Bool) → 0 < length ps → 0 < length (smoothOf closed cell ps)
+  unfolding smoothOf
+  smooth-some closed h = by-cases (ltb (length ps) 3) (λ t. rw t h) (λ t. rw t (resampled-some closed cell (loop (λ i q. averaged closed q) 0 3 ps)))
 
   pub open-first : nth (smoothOf false cell ps) 0 ≡ nth ps 0
   unfolding smoothOf

@@ -13,7 +13,7 @@ use Rattle.geom.specs.Vec.{v2, sum, scaled, distanceOf}
 use Rattle.geom.specs.Region.{vertexOf, before, after}
 use Rattle.geom.specs.Points.{putPoint, points}
 use Rattle.geom.specs.declared.vec2.Vec2.{Vec2}
-use Rattle.pieces.specs.Piece.{Piece, piecesAt, endOf, Laid}
+use Rattle.pieces.specs.Piece.{Piece, rowAt, piecesAt, endOf, Laid}
 use Rattle.pieces.specs.declared.row.Row.{Row}
 
 abbrev pub nth : List Vec2 → ℕ → Vec2
@@ -111,17 +111,19 @@ pub record Begins (l : List Vec2) (n : ℕ) (w : List Float) (r : ℕ) (t : List
 
 -- ---- the pieces of lent rows and points
 
--- r points of row p are left in v, which is as w beside the row's points
+-- r points of row p are left in v, one at least of a row that has any; v is as w beside the row's points
 pub record SmoothedRow (cell : Float) (p : Row) (w : List Float) (r : ℕ) (v : List Float) : Type 0 where
   pub is : points (p .first) r v ≡ smoothOf (p .closed) cell (points (p .first) (p .points) w)
   pub few : r ≤ p .points
+  pub some : 0 < p .points → 0 < r
   pub low : (j : ℕ) → j < p .first → vertexOf v j ≡ vertexOf w j
   pub high : (j : ℕ) → endOf p ≤ j → vertexOf v j ≡ vertexOf w j
   pub long : length v ≡ length w
 
--- the m pieces are smoothed, and still lie one behind the other in slices as long as they were
+-- the m pieces are smoothed, none that has points loses all, and they still lie one behind the other in slices as long as they were
 pub record SmoothedAll (m : ℕ) (cell : Float) (rows : List ℕ) (pts : List Float) (rows′ : List ℕ) (pts′ : List Float) : Type 0 where
   pub pieces : piecesAt m rows′ pts′ ≡ map (smoothed cell) (piecesAt m rows pts)
+  pub some : (k : ℕ) → k < m → 0 < rowAt rows k .points → 0 < rowAt rows′ k .points
   pub laid : Laid m rows′ pts′
   pub rows-long : length rows′ ≡ length rows
   pub points-long : length pts′ ≡ length pts
