@@ -6,7 +6,7 @@ use Prim.Native.Nat.{ℕ, zero, suc, _+_, _-_, _<_}
 use native.Mathlib.Omega.{arith}
 use lib.ListN.{length, getD, length-set, length-append, length-replicate, getD-replicate}
 use lib.Dec.{eqb}
-use Rattle.loops.specs.Each.{Each, over}
+use Rattle.loops.specs.Each.{Each}
 use Rattle.loops.specs.Loop.{turns, loop, Run, on, out, turn}
 use Rattle.loops.specs.Cells.{ones}
 use Rattle.loops.proofs.Cases.{by-test, never}
@@ -14,7 +14,7 @@ use Rattle.loops.proofs.CellLaws.{ones-le, ones-mark}
 use Rattle.loops.proofs.SetLaws.{set-either}
 use Rattle.loops.proofs.EachLaws.{over-keeps}
 use Rattle.contours.specs.declared.square.Segment.{Segment}
-use Rattle.contours.specs.Chain.{Tables, inserted, blank, tablesOf, Leads, Walk, Chain, walk, stepTo, follow, walkFrom}
+use Rattle.contours.specs.Chain.{Tables, inserted, blank, tablesOf, Leads, Walk, Chain, stepTo, follow, walkFrom}
 use Rattle.contours.specs.Edge.{nothing}
 
 -- ---- the tables

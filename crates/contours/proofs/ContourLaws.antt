@@ -18,9 +18,9 @@ use Rattle.contours.specs.Edge.{Between, edge}
 use Rattle.contours.specs.Square.{Joins}
 use Rattle.contours.specs.March.{segmentsOf, march}
 use Rattle.geom.proofs.PointLaws.{points-length}
-use Rattle.pieces.specs.Piece.{Piece, rowAt, pieceOf, piecesAt, Laid}
+use Rattle.pieces.specs.Piece.{Piece, pieceOf, piecesAt, Laid}
 use Rattle.pieces.proofs.PieceLaws.{each-piece}
-use Rattle.contours.specs.Chain.{Tables, tables, tablesOf, Leads, edgePoint, Chains, chains, chainAll, chainedPieces}
+use Rattle.contours.specs.Chain.{Tables, tablesOf, Leads, edgePoint, Chains, chains, chainAll, chainedPieces}
 use Rattle.contours.specs.Curve.{contoursOf}
 use Rattle.contours.specs.Traced.{piecesIn, segmentsAt, Tracing, Traced, Tabled, TwoPoints, Contoured}
 use Rattle.contours.specs.Places.{rowsAt, wordsEnd, nextIn, rowsIn}

@@ -3,9 +3,9 @@ use mathlib.Core.Path.{_≡_, refl, sym, ap, _∙_, subst}
 use mathlib.Core.Bool.{Bool, true, false, cond, not}
 use mathlib.Core.List.{List, [], _∷_, _++_, map}
 use mathlib.Core.Option.{Option, none, some}
-use Prim.Native.Nat.{ℕ, _+_, _*_, _≤_, _<_}
+use Prim.Native.Nat.{ℕ, _*_, _≤_, _<_}
 use native.Mathlib.Omega.{arith}
-use lib.ListN.{length, getD, set, replicate, length-set, length-replicate, getD-replicate}
+use lib.ListN.{getD, set, length-set, length-replicate, getD-replicate}
 use lib.Seq.{getD-set-same, getD-set-other}
 use lib.Dec.{eqb}
 use lib.Ieee.{Float}
@@ -13,17 +13,16 @@ use borrow.Author.Tests.{eqb-true, eqb-false, ne-eqb, eq-eqb}
 use Rattle.loops.specs.Each.{over, Each}
 use Rattle.loops.specs.Loop.{loop, Run, on, out, turn}
 use Rattle.loops.proofs.LoopLaws.{loop-both}
-use Rattle.loops.proofs.EachLaws.{each-all, map-more, over-more, over-keeps}
+use Rattle.loops.proofs.EachLaws.{each-all, map-more}
 use Rattle.loops.proofs.Cases.{by-cases, by-test}
 use Rattle.geom.specs.declared.vec2.Vec2.{Vec2}
 use Rattle.raster.specs.Grid.{Sides}
 use Rattle.raster.specs.declared.grid.Grid.{Grid}
-use Rattle.pieces.specs.Piece.{Piece}
 use Rattle.contours.specs.Edge.{edge, crossingAt, nothing}
 use Rattle.contours.specs.Square.{Joins}
 use Rattle.contours.specs.March.{march}
-use Rattle.contours.specs.Curve.{EdgeSet, EdgeMap, with, mapped, isSome, Joints, jointed, unjointed, jointsOf, Way, Curve, way, curve, goneTo, goTo, goOn, wayFrom, curveOf, curveFrom, deduped, Curves, curves, addedPiece, openStarts, firsts, curved, startFrom, piecesOf, contoursOf}
-use Rattle.contours.specs.Chain.{Tables, tables, inserted, blank, tablesOf, Walk, Chain, walk, ended, stepTo, follow, chainOf, walkFrom, chainFrom, edgePoint, Chains, chains, startsAt, chained, startAt, chainAll, chainedPieces}
+use Rattle.contours.specs.Curve.{EdgeSet, EdgeMap, with, mapped, isSome, Joints, jointed, unjointed, jointsOf, Way, Curve, curve, goneTo, goTo, goOn, wayFrom, curveOf, curveFrom, Curves, curves, openStarts, firsts, curved, startFrom, piecesOf, contoursOf}
+use Rattle.contours.specs.Chain.{Tables, inserted, blank, tablesOf, Walk, Chain, ended, stepTo, follow, chainOf, walkFrom, chainFrom, edgePoint, Chains, chains, startsAt, chained, startAt, chainAll, chainedPieces}
 use Rattle.contours.specs.Held.{markOf, HoldsMarks, orNothing, LeadsTo, HoldsNext, HoldsTables}
 use Rattle.contours.specs.Traced.{Below}
 use Rattle.contours.specs.declared.edge.EdgeNo.{EdgeNo}

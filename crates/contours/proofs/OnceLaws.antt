@@ -11,7 +11,7 @@ use Rattle.loops.proofs.SetLaws.{set-either}
 use Rattle.loops.specs.Each.{over, Each}
 use Rattle.loops.proofs.Cases.{by-cases, by-test}
 use Rattle.geom.specs.declared.vec2.Vec2.{Vec2}
-use Rattle.contours.specs.Chain.{Leads, chainFrom, Chains, chained, startsAt, startAt, chainAll, Tables, tables, inserted, blank, tablesOf}
+use Rattle.contours.specs.Chain.{Leads, chainFrom, Chains, chained, startsAt, startAt, chainAll, Tables, inserted, blank, tablesOf}
 use Rattle.contours.specs.Edge.{nothing}
 use Rattle.contours.specs.Traced.{Below}
 use Rattle.contours.specs.Used.{used, has, Once, Owns, Visits, visits, followedAt, followedAll, followedOf}

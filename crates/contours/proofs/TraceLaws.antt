@@ -75,9 +75,6 @@ module _ (g : Grid) (n : ℕ) (words marks : List ℕ) (pts : List Float) (c : C
         let w = h .packed .within k b in
         ap (λ (l : List Vec2). record { points = l; closed = r .closed }) (points-same (r .first) (r .points) pts′ pts (λ i d. f .before (r .first + i) (omega arith))))
 
-    kept-is : length (deduped (map at (from .ids))) ≡ kept
-    kept-is = sym (ap length (f .points-is)) ∙ points-length (c .points) kept pts′
-
     chained-is : chained at (nextIn n words) (length marks) s (chains marks (piecesIn n c words pts)) ≡ chains marks′ (addedPiece (points (c .points) kept pts′) closed (piecesIn n c words pts′))
     unfolding chained
     chained-is =

@@ -17,7 +17,6 @@ use Rattle.raster.specs.declared.grid.Grid.{Grid}
 use Rattle.contours.specs.Edge.{edge, nothing, Between, crossingAt}
 use Rattle.contours.specs.Curve.{near, thinned, deduped, addedPiece}
 use Rattle.pieces.specs.Piece.{Piece}
-use Rattle.contours.specs.declared.edge.EdgeNo.{EdgeNo}
 use Rattle.contours.specs.declared.chain.Trail.{Trail}
 
 -- `next` has the edge that follows an edge. `marks` has a byte for both sets: 1 where the edge is used, 2 where a segment leads into it, else 0. That a segment leads in

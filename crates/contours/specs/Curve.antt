@@ -31,14 +31,14 @@ with e set k = sameEdge k e || set k
 abbrev pub EdgeMap : Type 0
 EdgeMap = EdgeNo → Option EdgeNo
 
--- map.insert(a, b): of two inserted at one edge, the last one counts
-unfoldable pub mapped : EdgeNo → EdgeNo → EdgeMap → EdgeMap
-mapped a b map k = cond (sameEdge k a) (some b) (map k)
-
--- map.contains_key(e)
+-- map.contains_key(e), by what the map has for e
 abbrev pub isSome : Option EdgeNo → Bool
 isSome none = false
 isSome (some e) = true
+
+-- map.insert(a, b): of two inserted at one edge, the last one counts
+unfoldable pub mapped : EdgeNo → EdgeNo → EdgeMap → EdgeMap
+mapped a b map k = cond (sameEdge k a) (some b) (map k)
 
 -- ---- the edge after an edge, and the edges that a segment leads into
 
