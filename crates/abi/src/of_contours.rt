@@ -1,12 +1,13 @@
-// The functions of `contours`. A grid goes in as its corner, its cell and its sides.
+// The functions of `contours` and `smoothing`. A grid goes in as its corner, its cell and its sides.
 ghost use mathlib.Core.Path.{_≡_};
 ghost use Prim.Native.Nat.{_*_, _≤_};
 ghost use lib.ListN.{length};
 ghost use Rattle.raster.specs.Grid.{Over};
-ghost use Rattle.contours.specs.Chain.{contoursOf};
-ghost use Rattle.contours.specs.Piece.{piecesAt, Laid};
-ghost use Rattle.contours.specs.Smooth.{SmoothedAll};
-ghost use Rattle.contours.specs.Traced.{rowsIn, Sized};
+ghost use Rattle.pieces.specs.Piece.{piecesAt, Laid};
+ghost use Rattle.contours.specs.Curve.{contoursOf};
+ghost use Rattle.contours.specs.Places.{rowsIn};
+ghost use Rattle.contours.specs.Traced.{Sized};
+ghost use Rattle.smoothing.specs.Smooth.{SmoothedAll};
 ghost use Rattle.abi.specs.Raster.{grid};
 use geom::vec2::Vec2;
 use raster::grid::Grid;
@@ -37,7 +38,7 @@ pub extern "C" fn contours_trace(
         nx,
         ny,
     };
-    let c = contours::trace::contours(g, f, level, ny * nx, words, marks, pts);
+    let c = contours::trace::contours(g, f, level, words, marks, pts);
     c.pieces
 }
 
@@ -47,5 +48,5 @@ pub extern "C" fn contours_smooth(rows: &mut [u32], pts: &mut [f64], m: usize, c
     requires { ⌜ Laid m (now rows) (now pts) ⌝ }
     ensures { λ _. ⌜ SmoothedAll m cell (now (rows .entry)) (now (pts .entry)) (now (rows .exit)) (now (pts .exit)) ⌝ }
 {
-    contours::smooth::smooth_all(rows, pts, m, cell);
+    smoothing::smooth::smooth_all(rows, pts, m, cell);
 }

@@ -6,7 +6,7 @@ use Prim.Native.Nat.{ℕ, zero, suc, _+_, _-_, _<_}
 use native.Mathlib.Omega.{arith}
 use lib.ListN.{length, getD, length-set, length-append, length-replicate, getD-replicate}
 use lib.Dec.{eqb}
-use Rattle.loops.specs.Each.{Each, over}
+use Rattle.loops.specs.Each.{Each}
 use Rattle.loops.specs.Loop.{turns, loop, Run, on, out, turn}
 use Rattle.loops.specs.Cells.{ones}
 use Rattle.loops.proofs.Cases.{by-test, never}
@@ -14,13 +14,14 @@ use Rattle.loops.proofs.CellLaws.{ones-le, ones-mark}
 use Rattle.loops.proofs.SetLaws.{set-either}
 use Rattle.loops.proofs.EachLaws.{over-keeps}
 use Rattle.contours.specs.declared.square.Segment.{Segment}
-use Rattle.contours.specs.Chain.{nothing, Tables, joined, blank, tablesOf, Leads, Walk, Chain, walk, stepTo, follow, walkFrom}
+use Rattle.contours.specs.Chain.{Tables, inserted, blank, tablesOf, Leads, Walk, Chain, stepTo, follow, walkFrom}
+use Rattle.contours.specs.Edge.{nothing}
 
 -- ---- the tables
 
 module _ (P : ℕ → Type 0) (e : ℕ) where
-  leads-next : (s : Segment) (t : Tables) → P (s .to .0) → Leads P (t .next) → Leads P (joined s t .next)
-  unfolding joined
+  leads-next : (s : Segment) (t : Tables) → P (s .to .0) → Leads P (t .next) → Leads P (inserted s t .next)
+  unfolding inserted
   leads-next s t p l = record {
     to = λ i b. set-either (λ (v : ℕ). eqb v nothing ≡ false → P v) (t .next) (s .from .0) i (s .to .0) 0 (λ d. p) (l .to i (omega (arith, length-set (t .next) (s .from .0) (s .to .0))));
   }
@@ -33,7 +34,7 @@ module _ (P : ℕ → Type 0) (e : ℕ) where
   -- where the segments lead, the table leads
   pub tables-lead : (segs : List Segment) → Each (λ (s : Segment). P (s .to .0)) segs → Leads P (tablesOf e segs .next)
   unfolding tablesOf
-  tables-lead segs h = over-keeps joined (λ (s : Segment). P (s .to .0)) (λ (t : Tables). Leads P (t .next)) leads-next segs h (blank e) leads-blank
+  tables-lead segs h = over-keeps inserted (λ (s : Segment). P (s .to .0)) (λ (t : Tables). Leads P (t .next)) leads-next segs h (blank e) leads-blank
 
 -- ---- a chain
 

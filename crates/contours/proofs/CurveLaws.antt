@@ -1,147 +1,90 @@
--- What smoothing keeps: a short piece, the number of points or fewer, and the ends of an open piece. Assumes nothing.
-use mathlib.Core.Path.{_≡_, refl, sym, ap, _∙_, subst}
-use mathlib.Core.Bool.{Bool, true, false}
-use mathlib.Core.List.{List, [], _∷_, _++_}
-use mathlib.Core.Logic.{_⊎_, inl, inr}
-use Prim.Native.Nat.{ℕ, _+_, _-_, _*_, _%_, _≤_, _<_}
-use native.Mathlib.Omega.{arith}
-use native.Mathlib.Nat.{mul-add-mod-self-right, mod-eq-of-lt}
-use lib.ListN.{length, length-set, List·getD-append}
-use lib.Seq.{getD-set-other}
-use lib.Dec.{eqb, ltb}
-use lib.Ieee.{Float, nan}
-use borrow.Author.Tests.{ltb-true, ltb-false, eq-eqb, lt-ltb, eqb-true, eqb-false}
-use Rattle.loops.specs.Loop.{loop}
-use Rattle.loops.proofs.Cases.{by-cases, never, or-right}
-use Rattle.loops.proofs.LoopLaws.{loop-keeps}
-use Rattle.geom.specs.Region.{before, after}
-use Rattle.geom.specs.Vec.{v2, distanceOf}
+-- What is said of curves: the last insert wins, and every piece has two points or more. Assumes nothing.
+use mathlib.Core.Path.{_≡_, refl, sym, ap, _∙_}
+use mathlib.Core.Bool.{Bool, false}
+use mathlib.Core.List.{List, [], _∷_, _++_, map}
+use mathlib.Core.Option.{some}
+use Prim.Native.Nat.{ℕ, _*_, _<_}
+use lib.ListN.{length, getD}
+use lib.Dec.{ltb}
+use lib.Ieee.{Float}
+use borrow.Author.Tests.{eq-eqb, ne-eqb, ltb-false}
+use Rattle.loops.specs.Each.{over, Each}
+use Rattle.loops.specs.Loop.{turns, loop, turn}
+use Rattle.loops.proofs.EachLaws.{over-more, each-more}
+use Rattle.loops.proofs.Cases.{by-test}
 use Rattle.geom.specs.declared.vec2.Vec2.{Vec2}
-use Rattle.contours.specs.Smooth.{pointAt, lastOf, heldAt, averageAt, averaged, keepAt, keptOf, samePoint, endedAt, resampled, smoothOf}
-use Rattle.contours.proofs.StepLaws.{last-push, length-push}
-use Rattle.contours.proofs.SmoothLaws.{kept-all}
+use Rattle.raster.specs.declared.grid.Grid.{Grid}
+use Rattle.pieces.specs.Piece.{Piece}
+use Rattle.contours.specs.Edge.{edge, crossingAt, nothing}
+use Rattle.contours.specs.Square.{segment}
+use Rattle.contours.specs.March.{march}
+use Rattle.contours.specs.Curve.{EdgeMap, with, mapped, isSome, Joints, jointed, unjointed, jointsOf, goTo, goOn, curveOf, curveFrom, deduped, Curves, curves, addedPiece, openStarts, firsts, curved, startFrom, piecesOf, contoursOf}
+use Rattle.contours.specs.Chain.{inserted, tablesOf}
+use Rattle.contours.specs.Traced.{Below, TwoPoints}
+use Rattle.contours.specs.declared.edge.EdgeNo.{EdgeNo}
+use Rattle.contours.specs.declared.square.Segment.{Segment}
+use Rattle.contours.proofs.HoldLaws.{tables-held}
 
--- a short piece is unchanged
-pub short-same : (closed : Bool) (cell : Float) (ps : List Vec2) → length ps < 3 → smoothOf closed cell ps ≡ ps
-unfolding smoothOf
-short-same closed cell ps h = rw (lt-ltb (length ps) 3 h) refl
+-- ---- the last insert wins
 
--- ---- the neighbours, as the Rust numbers them
+module _ (segs : List Segment) (a b : EdgeNo) where
+  last-is : jointsOf (segs ++ (segment a b ∷ [])) ≡ jointed (segment a b) (jointsOf segs)
+  unfolding jointsOf
+  last-is = sym (over-more jointed segs (segment a b) unjointed)
 
-pub before-mod : (n k : ℕ) → k < n → before n k ≡ (k + n - 1) % n
-before-mod n k h = by-cases (eqb k 0)
-    (λ e. let z = eqb-true k 0 e in
-    let d : k + n - 1 ≡ n - 1 = omega arith in
-    rw e (sym (ap (λ (i : ℕ). i % n) d ∙ mod-eq-of-lt (let l : n - 1 < n = omega arith in l))))
-    (λ e. let z = eqb-false k 0 e in
-    let p : 0 < k = by-cases (ltb 0 k) (ltb-true 0 k) (λ t. absurd (z (let q : k ≡ 0 = omega (arith, ltb-false 0 k t) in q))) in
-    let d : k + n - 1 ≡ 1 * n + (k - 1) = omega arith in
-    rw e (sym (ap (λ (i : ℕ). i % n) d ∙ mul-add-mod-self-right 1 n (k - 1) ∙ mod-eq-of-lt (let l : k - 1 < n = omega arith in l))))
+  -- of segments that leave one edge the last one counts
+  pub last-wins : jointsOf (segs ++ (segment a b ∷ [])) .next a ≡ some b
+  unfolding jointed mapped
+  last-wins = ap (λ (j : Joints). j .next a) last-is ∙ rw (eq-eqb (a .0) (a .0) refl) refl
 
-pub after-mod : (n k : ℕ) → k < n → after n k ≡ (k + 1) % n
-after-mod n k h = by-cases (eqb (k + 1) n)
-    (λ e. let z = eqb-true (k + 1) n e in
-    let d : k + 1 ≡ 1 * n + 0 = omega arith in
-    rw e (sym (ap (λ (i : ℕ). i % n) d ∙ mul-add-mod-self-right 1 n 0 ∙ mod-eq-of-lt (let l : 0 < n = omega arith in l))))
-    (λ e. let z = eqb-false (k + 1) n e in
-    let l : k + 1 < n = by-cases (ltb (k + 1) n) (ltb-true (k + 1) n) (λ t. absurd (z (let q : k + 1 ≡ n = omega (arith, ltb-false (k + 1) n t) in q))) in
-    rw e (sym (mod-eq-of-lt l)))
+  -- and where another edge leads stays
+  pub others-stay : (k : EdgeNo) → (k .0 ≡ a .0 → ⊥) → jointsOf (segs ++ (segment a b ∷ [])) .next k ≡ jointsOf segs .next k
+  unfolding jointed mapped
+  others-stay k n = ap (λ (j : Joints). j .next k) last-is ∙ rw (ne-eqb (k .0) (a .0) n) refl
 
--- ---- averaging keeps the number of points, and the ends of an open piece
+  -- so it is in the table
+  pub last-tabled : (e : ℕ) → Each (Below e) (segs ++ (segment a b ∷ [])) → a .0 < e → getD (tablesOf e (segs ++ (segment a b ∷ [])) .next) (a .0) 0 ≡ b .0
+  last-tabled e h l = tables-held e (segs ++ (segment a b ∷ [])) h .next .entry (a .0) l ∙ ap Rattle.contours.specs.Held.orNothing last-wins
 
-pub averaged-length : (closed : Bool) (ps : List Vec2) → length (averaged closed ps) ≡ length ps
-unfolding averaged averageAt
-averaged-length closed ps =
-    loop-keeps (averageAt closed (length ps) ps) 0 (λ (q : List Vec2). length q ≡ length ps) (length ps)
-    (λ i q a b e. by-cases (heldAt closed (length ps) i) (λ t. rw t e) (λ t. rw t (length-set q i _ ∙ e))) ps refl
+-- two segments leave edge 3, to edge 5 and then to edge 7
+abbrev forked : List Segment
+forked = segment (edge 3) (edge 5) ∷ segment (edge 3) (edge 7) ∷ []
 
--- a point that is held is kept
-held-kept : (closed : Bool) (ps : List Vec2) (k : ℕ) → heldAt closed (length ps) k ≡ true → pointAt (averaged closed ps) k ≡ pointAt ps k
-unfolding averaged averageAt
-held-kept closed ps k h =
-    loop-keeps (averageAt closed (length ps) ps) 0 (λ (q : List Vec2). pointAt q k ≡ pointAt ps k) (length ps)
-    (λ i q a b e. by-cases (heldAt closed (length ps) i) (λ t. rw t e)
-    (λ t. rw t (getD-set-other q i k _ (v2 nan nan) (λ z. mathlib.Core.Bool.true≢false (sym h ∙ ap (heldAt closed (length ps)) z ∙ t)) ∙ e))) ps refl
+pub forked-next : jointsOf forked .next (edge 3) ≡ some (edge 7)
+unfolding jointsOf over jointed mapped
+forked-next = refl
 
--- ps and qs have the same number of points and the same ends
-pub record SameEnds (qs ps : List Vec2) : Type 0 where
-  pub count : length qs ≡ length ps
-  pub first : pointAt qs 0 ≡ pointAt ps 0
-  pub last : lastOf qs ≡ lastOf ps
+pub forked-table : tablesOf 8 forked .next ≡ nothing ∷ nothing ∷ nothing ∷ 7 ∷ nothing ∷ nothing ∷ nothing ∷ nothing ∷ []
+unfolding tablesOf over inserted
+forked-table = refl
 
-averaged-ends : (ps : List Vec2) → SameEnds (averaged false ps) ps
-unfolding heldAt
-averaged-ends ps =
-    let n = averaged-length false ps in
-    record {
-      count = n;
-      first = held-kept false ps 0 refl;
-      last = ap (λ (m : ℕ). pointAt (averaged false ps) (m - 1)) n ∙ held-kept false ps (length ps - 1) (or-right (eqb (length ps - 1) 0) (eqb (length ps - 1) (length ps - 1)) (eq-eqb (length ps - 1) (length ps - 1) refl));
-    }
+-- the curve from edge 3 goes to edge 7
+pub forked-curve : curveFrom (jointsOf forked .next) 8 (λ k. false) (edge 3) .ids ≡ edge 3 ∷ edge 7 ∷ []
+unfolding jointsOf over jointed mapped curveFrom curveOf loop turns turn goOn goTo with
+forked-curve = refl
 
-three-ends : (ps : List Vec2) → SameEnds (loop (λ t q. averaged false q) 0 3 ps) ps
-three-ends ps =
-    loop-keeps (λ t q. averaged false q) 0 (λ (q : List Vec2). SameEnds q ps) 3
-    (λ i q a b e. let s = averaged-ends q in record { count = s .count ∙ e .count; first = s .first ∙ e .first; last = s .last ∙ e .last }) ps
-    (record { count = refl; first = refl; last = refl })
+-- ---- every piece has two points or more
 
-three-count : (closed : Bool) (ps : List Vec2) → length (loop (λ t q. averaged closed q) 0 3 ps) ≡ length ps
-three-count closed ps =
-    loop-keeps (λ t q. averaged closed q) 0 (λ (q : List Vec2). length q ≡ length ps) 3 (λ i q a b e. averaged-length closed q ∙ e) ps refl
+added-two : (ps : List Vec2) (closed : Bool) (l : List Piece) → Each TwoPoints l → Each TwoPoints (addedPiece ps closed l)
+unfolding addedPiece
+added-two ps closed l h = by-test (Each TwoPoints) (ltb (length ps) 2) _ _ (λ t. h) (λ t. each-more TwoPoints l (record { points = ps; closed = closed }) h (ltb-false (length ps) 2 t))
 
--- ---- resampling
+module _ (at : EdgeNo → Vec2) (next : EdgeMap) (e : ℕ) where
+  start-two : (s : EdgeNo) (c : Curves) → Each TwoPoints (c .pieces) → Each TwoPoints (startFrom at next e s c .pieces)
+  unfolding startFrom curved
+  start-two s c h =
+      let k = curveFrom next e (c .used) s in
+      by-test (λ (d : Curves). Each TwoPoints (d .pieces)) (c .used s) _ _ (λ t. h)
+      (λ t. by-test (λ (d : Curves). Each TwoPoints (d .pieces)) (isSome (next s)) _ _ (λ u. added-two (deduped (map at (k .ids))) (k .closed) (c .pieces) h) (λ u. h))
 
-record Starts (p : Vec2) (out : List Vec2) : Type 0 where
-  some : 0 < length out
-  first : pointAt out 0 ≡ p
+  starts-two : (l : List EdgeNo) (c : Curves) → Each TwoPoints (c .pieces) → Each TwoPoints (over (startFrom at next e) l c .pieces)
+  unfolding over
+  starts-two [] c h = h
+  starts-two (s ∷ l) c h = starts-two l (startFrom at next e s c) (start-two s c h)
 
-push-starts : (p q : Vec2) (out : List Vec2) → Starts p out → Starts p (out ++ (q ∷ []))
-push-starts p q out s = record { some = omega (arith, length-push out q); first = List·getD-append out (q ∷ []) (v2 nan nan) 0 (s .some) ∙ s .first }
-
-kept-starts : (cell : Float) (ps : List Vec2) → Starts (pointAt ps 0) (keptOf cell ps)
-unfolding keptOf keepAt
-kept-starts cell ps =
-    loop-keeps (keepAt cell ps) 1 (Starts (pointAt ps 0)) (length ps)
-    (λ i out a b s. by-cases (lib.Ieee.le cell (distanceOf (lastOf out) (pointAt ps i))) (λ t. rw t (push-starts (pointAt ps 0) (pointAt ps i) out s)) (λ t. rw t s))
-    (pointAt ps 0 ∷ []) (record { some = omega arith; first = refl })
-
-resampled-first : (closed : Bool) (cell : Float) (ps : List Vec2) → pointAt (resampled closed cell ps) 0 ≡ pointAt ps 0
-unfolding resampled endedAt
-resampled-first true cell ps = kept-starts cell ps .first
-resampled-first false cell ps =
-    by-cases (samePoint (lastOf (keptOf cell ps)) (lastOf ps)) (λ t. rw t (kept-starts cell ps .first)) (λ t. rw t (push-starts (pointAt ps 0) (lastOf ps) (keptOf cell ps) (kept-starts cell ps) .first))
-
--- it ends at the last point, or at one that equals it as floats do
-abbrev pub EndsAt : Vec2 → List Vec2 → Type 0
-EndsAt p out = (lastOf out ≡ p) ⊎ (samePoint (lastOf out) p ≡ true)
-
-resampled-last : (cell : Float) (ps : List Vec2) → EndsAt (lastOf ps) (resampled false cell ps)
-unfolding resampled endedAt
-resampled-last cell ps =
-    by-cases (samePoint (lastOf (keptOf cell ps)) (lastOf ps)) (λ t. rw t (inr t)) (λ t. rw t (inl (last-push (keptOf cell ps) (lastOf ps))))
-
-resampled-few : (closed : Bool) (cell : Float) (ps : List Vec2) → 1 < length ps → length (resampled closed cell ps) ≤ length ps
-unfolding resampled endedAt
-resampled-few true cell ps h = kept-all cell ps h .few
-resampled-few false cell ps h =
-    let k = kept-all cell ps h in
-    by-cases (samePoint (lastOf (keptOf cell ps)) (lastOf ps)) (λ t. rw t (k .few))
-    (λ t. rw t (by-cases (ltb (length (keptOf cell ps)) (length ps)) (λ u. omega (arith, length-push (keptOf cell ps) (lastOf ps), ltb-true (length (keptOf cell ps)) (length ps) u))
-    (λ u. never (sym t ∙ k .full (let z : length (keptOf cell ps) ≡ length ps = omega (arith, ltb-false (length (keptOf cell ps)) (length ps) u, k .few) in z) h))))
-
--- ---- a piece
-
-module _ (cell : Float) (ps : List Vec2) where
-  pub smooth-most : (closed : Bool) → length (smoothOf closed cell ps) ≤ length ps
-  unfolding smoothOf
-  smooth-most closed = by-cases (ltb (length ps) 3) (λ t. rw t (omega arith))
-      (λ t. rw t (omega (arith, three-count closed ps, ltb-false (length ps) 3 t, resampled-few closed cell (loop (λ i q. averaged closed q) 0 3 ps) (omega (arith, three-count closed ps, ltb-false (length ps) 3 t)))))
-
-  pub open-first : pointAt (smoothOf false cell ps) 0 ≡ pointAt ps 0
-  unfolding smoothOf
-  open-first = by-cases (ltb (length ps) 3) (λ t. rw t refl) (λ t. rw t (resampled-first false cell (loop (λ i q. averaged false q) 0 3 ps) ∙ three-ends ps .first))
-
-  pub open-last : EndsAt (lastOf ps) (smoothOf false cell ps)
-  unfolding smoothOf
-  open-last = by-cases (ltb (length ps) 3) (λ t. rw t (inl refl))
-      (λ t. rw t (subst (λ (p : Vec2). EndsAt p (resampled false cell (loop (λ i q. averaged false q) 0 3 ps))) (three-ends ps .last) (resampled-last cell (loop (λ i q. averaged false q) 0 3 ps))))
+pub contours-two : (g : Grid) (f : List Float) (level : Float) → Each TwoPoints (contoursOf g f level)
+unfolding contoursOf piecesOf Each
+contours-two g f level =
+    let segs = march g f level in
+    let t = jointsOf segs in
+    starts-two (crossingAt g f level) (t .next) (2 * (g .ny * g .nx)) (openStarts (t .hasPrev) segs ++ firsts segs) (curves (λ k. false) []) tt

@@ -10,11 +10,12 @@ use Rattle.loops.proofs.Cases.{by-cases}
 use Rattle.geom.specs.Points.{points, putPoint}
 use Rattle.geom.specs.declared.vec2.Vec2.{Vec2}
 use Rattle.geom.proofs.PointLaws.{points-more}
-use Rattle.contours.specs.Chain.{near, thinned, deduped, lastOf, lastKept, Trailing, keptOf, putKept}
+use Rattle.contours.specs.Chain.{lastFrom, lastKept, Trailing, extended, putKept}
+use Rattle.contours.specs.Curve.{near, thinned, deduped}
 use Rattle.contours.specs.declared.chain.Trail.{Trail}
 
-last-more : (q p : Vec2) (ps : List Vec2) → lastOf q (ps ++ (p ∷ [])) ≡ p
-unfolding lastOf
+last-more : (q p : Vec2) (ps : List Vec2) → lastFrom q (ps ++ (p ∷ [])) ≡ p
+unfolding lastFrom
 last-more q p [] = refl
 last-more q p (r ∷ ps) = last-more r p ps
 
@@ -23,7 +24,7 @@ cond-out true r x y = refl
 cond-out false r x y = refl
 
 thinned-more : (q p : Vec2) (ps : List Vec2) → thinned q (ps ++ (p ∷ [])) ≡ cond (near p (lastKept q ps)) (thinned q ps) (thinned q ps ++ (p ∷ []))
-unfolding thinned lastOf
+unfolding thinned lastFrom
 thinned-more q p [] = refl
 thinned-more q p (r ∷ ps) = by-cases (near r q)
     (λ a. rw a (thinned-more q p ps))
@@ -42,16 +43,16 @@ deduped-few (p ∷ ps) = omega (arith, thinned-few p ps)
 
 -- the points of the slice are those kept of one more
 pub trailing-more : (first : ℕ) (q p : Vec2) (ps : List Vec2) (t : Trail) (w : List Float) → Trailing first q ps t w → 2 * (first + t .kept) + 1 < length w
-    → Trailing first q (ps ++ (p ∷ [])) (keptOf p t) (putKept first p t w)
-unfolding keptOf putKept deduped
+    → Trailing first q (ps ++ (p ∷ [])) (extended p t) (putKept first p t w)
+unfolding extended putKept deduped
 trailing-more first q p ps t w h b = by-cases (near p (t .last))
     (λ a. rw a (let n : near p (lastKept q ps) ≡ true = ap (near p) (sym (h .last)) ∙ a in record {
       is = h .is ∙ sym (ap (λ (l : List Vec2). q ∷ l) (thinned-more q p ps ∙ ap (λ (c : Bool). cond c (thinned q ps) (thinned q ps ++ (p ∷ []))) n));
-      last = h .last ∙ sym (ap (lastOf q) (thinned-more q p ps ∙ ap (λ (c : Bool). cond c (thinned q ps) (thinned q ps ++ (p ∷ []))) n));
+      last = h .last ∙ sym (ap (lastFrom q) (thinned-more q p ps ∙ ap (λ (c : Bool). cond c (thinned q ps) (thinned q ps ++ (p ∷ []))) n));
     }))
     (λ a. rw a (let n : near p (lastKept q ps) ≡ false = ap (near p) (sym (h .last)) ∙ a in
     let m : thinned q (ps ++ (p ∷ [])) ≡ thinned q ps ++ (p ∷ []) = thinned-more q p ps ∙ ap (λ (c : Bool). cond c (thinned q ps) (thinned q ps ++ (p ∷ []))) n in record {
       is = ap (λ (k : ℕ). points first k (putPoint (first + t .kept) p w)) (let z : t .kept + 1 ≡ suc (t .kept) = omega arith in z)
           ∙ points-more first (t .kept) p w b ∙ ap (λ (l : List Vec2). l ++ (p ∷ [])) (h .is) ∙ sym (ap (λ (l : List Vec2). q ∷ l) m);
-      last = sym (ap (lastOf q) m ∙ last-more q p (thinned q ps));
+      last = sym (ap (lastFrom q) m ∙ last-more q p (thinned q ps));
     }))

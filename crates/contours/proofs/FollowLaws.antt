@@ -18,7 +18,9 @@ use Rattle.geom.specs.Region.{vertexOf}
 use Rattle.geom.specs.Points.{points, putPoint}
 use Rattle.geom.specs.declared.vec2.Vec2.{Vec2}
 use Rattle.geom.proofs.PointLaws.{points-length, points-more, put-there, put-length}
-use Rattle.contours.specs.Chain.{nothing, Walk, Chain, walk, ended, stepTo, follow, chainOf, walkFrom, chainFrom, near, thinned, deduped, lastOf, keptOf, putKept, Trailing, Followed}
+use Rattle.contours.specs.Chain.{Walk, Chain, walk, ended, stepTo, follow, chainOf, walkFrom, chainFrom, lastFrom, extended, putKept, Trailing, Followed}
+use Rattle.contours.specs.Edge.{nothing}
+use Rattle.contours.specs.Curve.{near, thinned, deduped}
 use Rattle.contours.specs.declared.chain.Trail.{Trail}
 use Rattle.contours.proofs.ChainLaws.{Walked, walked-none, walked-more, walked-room}
 use Rattle.contours.proofs.DedupLaws.{deduped-few, trailing-more}
@@ -65,7 +67,7 @@ module _ (at : ℕ → Vec2) (next marks₀ : List ℕ) (pts₀ : List Float) (f
 
   pub following-none : s < length marks₀ → eqb (getD marks₀ s 0) 1 ≡ false → 2 * length marks₀ ≤ length pts₀
       → Following at next marks₀ pts₀ first s (set marks₀ s 1) (putPoint first (at s) pts₀) (record { kept = 1; last = at s }) s
-  unfolding deduped thinned lastOf points
+  unfolding deduped thinned lastFrom points
   following-none b d r =
       let h = first-room b d r in
       record {
@@ -96,7 +98,7 @@ module _ (at : ℕ → Vec2) (next marks₀ : List ℕ) (pts₀ : List Float) (f
 
   pub following-more : (marks : List ℕ) (pts : List Float) (t : Trail) (cur n : ℕ) → Following at next marks₀ pts₀ first s marks pts t cur
       → n ≡ getD next cur 0 → (n ≡ nothing → ⊥) → (n ≡ s → ⊥) → (getD marks n 0 ≡ 1 → ⊥) → n < length marks₀ → 2 * length marks₀ ≤ length pts₀
-      → Following at next marks₀ pts₀ first s (set marks n 1) (putKept first (at n) t pts) (keptOf (at n) t) n
+      → Following at next marks₀ pts₀ first s (set marks n 1) (putKept first (at n) t pts) (extended (at n) t) n
   unfolding follow
   following-more marks pts t cur n f e a b d h r = record {
     turns = f .turns + 1;
@@ -104,7 +106,7 @@ module _ (at : ℕ → Vec2) (next marks₀ : List ℕ) (pts₀ : List Float) (f
     going = going-on (follow next s) 0 (length marks₀) (on (walkFrom marks₀ s)) (walk marks (s ∷ f .ids) cur) (stepTo n (walk marks (s ∷ f .ids) cur)) (f .turns) (f .going)
         (walked-room (length marks₀) (ones marks₀) (f .turns) _ (f .walked)) (rw (← e, ne-eqb _ _ a, ne-eqb _ _ b, ne-eqb _ _ d) refl);
     walked = walked-more (length marks₀) (ones marks₀) (f .turns) n (walk marks (s ∷ f .ids) cur) (f .walked) h (ne-eqb _ _ d);
-    trailing = subst (λ (l : List Vec2). Trailing first (at s) l (keptOf (at n) t) (putKept first (at n) t pts)) (sym (map-more at (f .ids) n))
+    trailing = subst (λ (l : List Vec2). Trailing first (at s) l (extended (at n) t) (putKept first (at n) t pts)) (sym (map-more at (f .ids) n))
         (trailing-more first (at s) (at n) (map at (f .ids)) t pts (f .trailing) (point-room marks pts t cur n f h d r));
     before = λ j k. kept-before first (at n) t pts j k ∙ f .before j k;
     long = kept-length first (at n) t pts ∙ f .long;

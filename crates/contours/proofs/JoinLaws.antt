@@ -1,21 +1,20 @@
--- Every segment of `march` joins edges between cells of the grid, and there are at most two for each cell. Assumes nothing.
+-- Every segment of `march` joins edges between cells of the grid. Assumes nothing.
 use mathlib.Core.Path.{_≡_, sym, subst}
 use mathlib.Core.Bool.{Bool, true, false, cond, _||_}
 use mathlib.Core.List.{List, []}
-use Prim.Native.Nat.{ℕ, _+_, _-_, _*_, _≤_, _<_}
+use Prim.Native.Nat.{ℕ, _+_, _-_, _*_, _<_}
 use native.Mathlib.Omega.{arith}
-use native.Mathlib.Nat.{add-mul, mul-left-comm, mul-le-mul-right}
+use native.Mathlib.Nat.{add-mul}
 use lib.Dec.{eqb}
-use lib.ListN.{length, length-append}
 use lib.Ieee.{Float}
 use Rattle.loops.proofs.EachLaws.{each-more}
 use Rattle.loops.specs.Each.{Each}
-use Rattle.loops.proofs.LoopLaws.{loop-keeps, loop-few}
+use Rattle.loops.proofs.LoopLaws.{loop-keeps}
 use Rattle.raster.specs.Grid.{Sides, numbered}
 use Rattle.raster.specs.declared.grid.Grid.{Grid}
 use Rattle.contours.specs.Edge.{Between, crossingAt}
 use Rattle.contours.specs.Square.{InGrid, Joins, squareAt, hasNan, codeOf, edgesOf, segment, cutOf, saddleOf, joinedOf, cornersOf, turnedOf, directedOf}
-use Rattle.contours.specs.March.{pushed, pushedTwo, marchCode, marchSquare, marchRow, march, segmentAt, Gathered}
+use Rattle.contours.specs.March.{pushed, pushedTwo, marchCode, marchSquare, marchRow, march}
 use Rattle.contours.specs.declared.edge.EdgeNo.{EdgeNo}
 use Rattle.contours.specs.declared.square.Square.{Square}
 use Rattle.contours.specs.declared.square.Edges.{Edges}
@@ -23,7 +22,6 @@ use Rattle.contours.specs.declared.square.Segment.{Segment}
 use Rattle.contours.specs.declared.square.Saddle.{Saddle}
 use Rattle.contours.proofs.EdgeLaws.{across-between, upward-between, edge-below}
 use Rattle.contours.proofs.SquareLaws.{last-below}
-use Rattle.contours.proofs.SegmentLaws.{each-segment}
 
 -- ---- the edges that are joined
 
@@ -124,35 +122,5 @@ module _ (g : Grid) (f : List Float) (level : Float) where
   unfolding march Each
   march-joins = loop-keeps (marchRow g f level) 0 (Each (Joins g)) (g .ny - 1) (λ j s a b d. row-joins j s (omega arith) d) [] tt
 
--- so does each in a slice that holds them
-pub gathered-joins : (g : Grid) (f : List Float) (level : Float) (m : ℕ) (w : List ℕ) (r : ℕ) (w′ : List ℕ) → Gathered (march g f level) m w r w′ → (k : ℕ) → k < r → Joins g (segmentAt w′ k)
-gathered-joins g f level m w r w′ G = each-segment (Joins g) r w′ (subst (Each (Joins g)) (sym (G .is)) (march-joins g f level))
-
 pub joins-below : (g : Grid) (s : Segment) → Sides g → Joins g s → (s .from .0 < 2 * (g .ny * g .nx)) × (s .to .0 < 2 * (g .ny * g .nx))
 joins-below g s h j = (edge-below g (s .from) h (j .from), edge-below g (s .to) h (j .to))
-
--- ---- how many there are
-
-module _ (g : Grid) (f : List Float) (level : Float) where
-  code-few : (q : Square) (code : ℕ) (l : List Segment) → length (marchCode g f level q code l) ≤ length l + 2
-  unfolding marchCode pushedTwo pushed
-  code-few q code l =
-      either-one (λ (z : List Segment). length z ≤ length l + 2) (eqb code 0 || eqb code 15) (omega arith)
-      (either-one (λ (z : List Segment). length z ≤ length l + 2) (eqb code 5 || eqb code 10)
-      (simp length-append (omega arith))
-      (simp length-append (omega arith)))
-
-  square-few : (i j : ℕ) (l : List Segment) → length (marchSquare g f level i j l) ≤ length l + 2
-  unfolding marchSquare
-  square-few i j l =
-      either-one (λ (z : List Segment). length z ≤ length l + 2) (hasNan (squareAt g f i j)) (omega arith) (code-few (squareAt g f i j) (codeOf (squareAt g f i j) level) l)
-
-  row-few : (j : ℕ) (l : List Segment) → length (marchRow g f level j l) ≤ length l + 2 * g .nx
-  unfolding marchRow
-  row-few j l = omega (arith, loop-few (λ i. marchSquare g f level i j) length 0 2 (g .nx - 1) (λ i s. square-few i j s) l)
-
-  pub march-few : length (march g f level) ≤ 2 * (g .ny * g .nx)
-  unfolding march
-  march-few =
-      let m = mul-le-mul-right (2 * g .nx) (let z : g .ny - 1 - 0 ≤ g .ny = omega arith in z) in
-      omega (arith, loop-few (marchRow g f level) length 0 (2 * g .nx) (g .ny - 1) row-few [], m, mul-left-comm (g .ny) 2 (g .nx))

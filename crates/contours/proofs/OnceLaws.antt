@@ -11,22 +11,23 @@ use Rattle.loops.proofs.SetLaws.{set-either}
 use Rattle.loops.specs.Each.{over, Each}
 use Rattle.loops.proofs.Cases.{by-cases, by-test}
 use Rattle.geom.specs.declared.vec2.Vec2.{Vec2}
-use Rattle.contours.specs.Chain.{nothing, Leads, chainFrom, Chains, chained, startsAt, startAt, chainAll, Tables, tables, joined, blank, tablesOf}
+use Rattle.contours.specs.Chain.{Leads, chainFrom, Chains, chained, startsAt, startAt, chainAll, Tables, inserted, blank, tablesOf}
+use Rattle.contours.specs.Edge.{nothing}
 use Rattle.contours.specs.Traced.{Below}
-use Rattle.contours.specs.Used.{used, has, Once, Owns, Edges, edges, followedAt, followedAll, followedOf}
+use Rattle.contours.specs.Used.{used, has, Once, Owns, Visits, visits, followedAt, followedAll, followedOf}
 use Rattle.contours.specs.declared.square.Segment.{Segment}
 use Rattle.contours.proofs.ChainLaws.{tables-lead}
 use Rattle.contours.proofs.TourLaws.{unused-start}
 use Rattle.contours.proofs.UsedLaws.{has-append, once-append, chain-owns}
 
 -- the edges followed are those used, each once
-pub record Followed (e : ℕ) (t : Edges) : Type 0 where
+pub record VisitedOnce (e : ℕ) (t : Visits) : Type 0 where
   pub long : length (t .marks) ≡ e
   pub once : Once (t .ids)
   pub is : (i : ℕ) → used (t .marks) i ≡ has i (t .ids)
 
 module _ (next : List ℕ) (e : ℕ) (z : length next ≡ e) (leads : Leads (λ (n : ℕ). n < e) next) where
-  followed-chain : (s : ℕ) (t : Edges) → s < e → used (t .marks) s ≡ false → Followed e t → let c = chainFrom next e (t .marks) s in Followed e (edges (c .marks) (t .ids ++ c .ids))
+  followed-chain : (s : ℕ) (t : Visits) → s < e → used (t .marks) s ≡ false → VisitedOnce e t → let c = chainFrom next e (t .marks) s in VisitedOnce e (visits (c .marks) (t .ids ++ c .ids))
   followed-chain s t b d h =
       let l = h .long in
       let r = subst (λ (k : ℕ). let c = chainFrom next k (t .marks) s in Owns next s (t .marks) (c .marks) (c .ids) × (length (c .marks) ≡ length (t .marks))) l
@@ -39,14 +40,14 @@ module _ (next : List ℕ) (e : ℕ) (z : length next ≡ e) (leads : Leads (λ 
         is = λ i. o .taken i ∙ ap (λ (b : Bool). b || has i (c .ids)) (h .is i) ∙ sym (has-append i (t .ids) (c .ids));
       }
 
-  followed-start : (first : Bool) (s : Segment) (t : Edges) → Below e s → Followed e t → Followed e (followedAt next e first (s .from .0) t)
+  followed-start : (first : Bool) (s : Segment) (t : Visits) → Below e s → VisitedOnce e t → VisitedOnce e (followedAt next e first (s .from .0) t)
   unfolding followedAt
   followed-start first s t b h =
-      by-test (Followed e) (startsAt first (getD (t .marks) (s .from .0) 0)) _ _ (λ a. followed-chain (s .from .0) t (b .from) (unused-start first (getD (t .marks) (s .from .0) 0) a) h) (λ a. h)
+      by-test (VisitedOnce e) (startsAt first (getD (t .marks) (s .from .0) 0)) _ _ (λ a. followed-chain (s .from .0) t (b .from) (unused-start first (getD (t .marks) (s .from .0) 0) a) h) (λ a. h)
 
-  pub followed-all : (first : Bool) (segs : List Segment) → Each (Below e) segs → (t : Edges) → Followed e t → Followed e (followedAll next e first segs t)
+  pub followed-all : (first : Bool) (segs : List Segment) → Each (Below e) segs → (t : Visits) → VisitedOnce e t → VisitedOnce e (followedAll next e first segs t)
   unfolding followedAll
-  followed-all first segs b t h = over-keeps (λ (s : Segment). followedAt next e first (s .from .0)) (Below e) (Followed e) (followed-start first) segs b t h
+  followed-all first segs b t h = over-keeps (λ (s : Segment). followedAt next e first (s .from .0)) (Below e) (VisitedOnce e) (followed-start first) segs b t h
 
 -- ---- the tables use no edge yet
 
@@ -60,9 +61,9 @@ getD-zeros zero i = refl
 getD-zeros (suc n) zero = refl
 getD-zeros (suc n) (suc i) = getD-zeros n i
 
-unused-joined : (e : ℕ) (s : Segment) (t : Tables) → Below e s → Unused e t → Unused e (joined s t)
-unfolding joined
-unused-joined e s t b h = record {
+unused-inserted : (e : ℕ) (s : Segment) (t : Tables) → Below e s → Unused e t → Unused e (inserted s t)
+unfolding inserted
+unused-inserted e s t b h = record {
   next-long = length-set (t .next) (s .from .0) (s .to .0) ∙ h .next-long;
   marks-long = length-set (t .marks) (s .to .0) 2 ∙ h .marks-long;
   none = λ i. set-either (λ (v : ℕ). eqb v 1 ≡ false) (t .marks) (s .to .0) i 2 0 refl (h .none i);
@@ -70,31 +71,31 @@ unused-joined e s t b h = record {
 
 unused-tables : (e : ℕ) (segs : List Segment) → Each (Below e) segs → Unused e (tablesOf e segs)
 unfolding tablesOf
-unused-tables e segs b = over-keeps joined (Below e) (Unused e) (unused-joined e) segs b (blank e) record {
+unused-tables e segs b = over-keeps inserted (Below e) (Unused e) (unused-inserted e) segs b (blank e) record {
   next-long = length-replicate e nothing;
   marks-long = length-replicate e 0;
   none = λ i. ap (λ (v : ℕ). eqb v 1) (getD-zeros e i);
 }
 
 -- each edge that the chains of these segments follow is followed once
-pub edges-once : (e : ℕ) (segs : List Segment) → Each (Below e) segs → Followed e (followedOf e segs)
+pub edges-once : (e : ℕ) (segs : List Segment) → Each (Below e) segs → VisitedOnce e (followedOf e segs)
 unfolding followedOf Once has
 edges-once e segs b =
     let t = tablesOf e segs in
     let u = unused-tables e segs b in
     let l = tables-lead (λ (n : ℕ). n < e) e segs (each-all (Below e) _ (λ s h. h .to) segs b) in
-    let first : Followed e (followedAll (t .next) e true segs (edges (t .marks) [])) =
-    followed-all (t .next) e (u .next-long) l true segs b (edges (t .marks) []) (record { long = u .marks-long; once = tt; is = u .none }) in
+    let first : VisitedOnce e (followedAll (t .next) e true segs (visits (t .marks) [])) =
+    followed-all (t .next) e (u .next-long) l true segs b (visits (t .marks) []) (record { long = u .marks-long; once = tt; is = u .none }) in
     followed-all (t .next) e (u .next-long) l false segs b _ first
 
 -- ---- and they are the edges of the definition's chains
 
 module _ (at : ℕ → Vec2) (next : List ℕ) (e : ℕ) (first : Bool) where
-  same-start : (s : ℕ) (c : Chains) (t : Edges) → c .marks ≡ t .marks → startAt at next e first s c .marks ≡ followedAt next e first s t .marks
+  same-start : (s : ℕ) (c : Chains) (t : Visits) → c .marks ≡ t .marks → startAt at next e first s c .marks ≡ followedAt next e first s t .marks
   unfolding startAt followedAt chained
   same-start s c t m = rw m (by-cases (startsAt first (getD (t .marks) s 0)) (λ a. rw a refl) (λ a. rw a refl))
 
-  pub same-marks : (segs : List Segment) (c : Chains) (t : Edges) → c .marks ≡ t .marks → chainAll at next e first segs c .marks ≡ followedAll next e first segs t .marks
+  pub same-marks : (segs : List Segment) (c : Chains) (t : Visits) → c .marks ≡ t .marks → chainAll at next e first segs c .marks ≡ followedAll next e first segs t .marks
   unfolding chainAll followedAll over
   same-marks [] c t m = m
   same-marks (s ∷ segs) c t m = same-marks segs (startAt at next e first (s .from .0) c) (followedAt next e first (s .from .0) t) (same-start (s .from .0) c t m)

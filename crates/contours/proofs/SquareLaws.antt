@@ -17,7 +17,7 @@ use Rattle.raster.specs.declared.grid.Grid.{Grid}
 use Rattle.raster.specs.declared.grid.CellNo.{CellNo}
 use Rattle.raster.proofs.GridLaws.{number-below}
 use Rattle.contours.specs.Edge.{acrossOf, upwardOf, crossingAt}
-use Rattle.contours.specs.Square.{InGrid, weightOf, edgesOf, segment, cornersOf, near, nearerOf, nearestOf, turnedOf, directedOf}
+use Rattle.contours.specs.Square.{InGrid, weightOf, edgesOf, segment, cornersOf, nearAt, nearerOf, nearestOf, turnedOf, directedOf}
 use Rattle.contours.specs.declared.edge.EdgeNo.{EdgeNo}
 use Rattle.contours.specs.declared.square.Square.{Square}
 use Rattle.contours.specs.declared.square.Segment.{Segment}
@@ -65,7 +65,7 @@ pub corners-are : (g : Grid) (q : Square) (a b c d : Vec2) → a ≡ centerOf g 
 unfolding cornersOf
 corners-are g q a b c d A B C D = rw (A, B, C, D)
 
-pub nearer-yes : (mid : Vec2) (c : Corner) (n : Near) (d : Float) → d ≡ distanceOf (c .at) mid → lt d (n .distance) ≡ true → near c d ≡ nearerOf mid c n
+pub nearer-yes : (mid : Vec2) (c : Corner) (n : Near) (d : Float) → d ≡ distanceOf (c .at) mid → lt d (n .distance) ≡ true → nearAt c d ≡ nearerOf mid c n
 unfolding nearerOf
 nearer-yes mid c n d D t = rw (← D, t)
 
@@ -73,7 +73,7 @@ pub nearer-no : (mid : Vec2) (c : Corner) (n : Near) (d : Float) → d ≡ dista
 unfolding nearerOf
 nearer-no mid c n d D t = rw (← D, t)
 
-pub nearest-is : (cs : Corners) (mid : Vec2) (a b c d : Near) → a ≡ nearerOf mid (cs .c0) (near (cs .c0) (inf false)) → b ≡ nearerOf mid (cs .c1) a → c ≡ nearerOf mid (cs .c2) b → d ≡ nearerOf mid (cs .c3) c
+pub nearest-is : (cs : Corners) (mid : Vec2) (a b c d : Near) → a ≡ nearerOf mid (cs .c0) (nearAt (cs .c0) (inf false)) → b ≡ nearerOf mid (cs .c1) a → c ≡ nearerOf mid (cs .c2) b → d ≡ nearerOf mid (cs .c3) c
     → d .corner ≡ nearestOf cs mid
 unfolding nearestOf
 nearest-is cs mid a b c d A B C D = rw (D, C, B, A)

@@ -14,8 +14,9 @@ use Rattle.geom.specs.declared.vec2.Vec2.{Vec2}
 use Rattle.raster.specs.declared.grid.Grid.{Grid}
 use Rattle.contours.specs.March.{segmentAt, segmentsOf}
 use Rattle.contours.specs.Chain.{Chains, chains, chained, startsAt, startAt, chainAll}
-use Rattle.contours.specs.Traced.{segmentsIn, nextIn, piecesIn, segmentsAt, Tracing, Traced}
-use Rattle.contours.specs.declared.chain.Count.{Count}
+use Rattle.contours.specs.Traced.{piecesIn, segmentsAt, Tracing, Traced}
+use Rattle.contours.specs.Places.{segmentsIn, nextIn}
+use Rattle.pieces.specs.declared.row.Count.{Count}
 use Rattle.contours.specs.declared.square.Segment.{Segment}
 
 -- where a chain starts the edge is not used

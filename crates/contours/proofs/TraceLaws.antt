@@ -16,23 +16,25 @@ use Rattle.geom.specs.Points.{points}
 use Rattle.geom.specs.declared.vec2.Vec2.{Vec2}
 use Rattle.geom.proofs.PointLaws.{points-length, points-same}
 use Rattle.raster.specs.declared.grid.Grid.{Grid}
-use Rattle.contours.specs.Piece.{Piece, row, rowAt, putRow, pieceOf, piecesAt}
-use Rattle.contours.specs.Chain.{Chain, chainFrom, deduped, Chains, chains, pushed, chained, Chaining, Followed}
-use Rattle.contours.specs.Traced.{segmentsIn, nextIn, rowsIn, Packed, Tracing, Startable, piecesIn, Traced}
-use Rattle.contours.specs.declared.chain.Count.{Count}
-use Rattle.contours.specs.declared.piece.Row.{Row}
-use Rattle.contours.proofs.PieceLaws.{row-here, row-there, row-length, pieces-same, pieces-more}
+use Rattle.pieces.specs.Piece.{Piece, row, rowAt, putRow, pieceOf, piecesAt}
+use Rattle.contours.specs.Chain.{Chain, chainFrom, Chains, chains, chained, Chaining, Followed}
+use Rattle.contours.specs.Curve.{deduped, addedPiece}
+use Rattle.contours.specs.Traced.{Packed, Tracing, Startable, piecesIn, Traced}
+use Rattle.contours.specs.Places.{nextAt, rowsAt, wordsEnd, segmentsIn, nextIn, rowsIn}
+use Rattle.pieces.specs.declared.row.Count.{Count}
+use Rattle.pieces.specs.declared.row.Row.{Row}
+use Rattle.pieces.proofs.PieceLaws.{row-here, row-there, row-length, pieces-same, pieces-more}
 
 abbrev count : ℕ → ℕ → Count
 count pieces points = record { pieces = pieces; points = points }
 
-pushed-few : (ps : List Vec2) (closed : Bool) (l : List Piece) → length ps < 2 → pushed ps closed l ≡ l
-unfolding pushed
-pushed-few ps closed l h = rw (lt-ltb (length ps) 2 h) refl
+added-few : (ps : List Vec2) (closed : Bool) (l : List Piece) → length ps < 2 → addedPiece ps closed l ≡ l
+unfolding addedPiece
+added-few ps closed l h = rw (lt-ltb (length ps) 2 h) refl
 
-pushed-piece : (ps : List Vec2) (closed : Bool) (l : List Piece) → 2 ≤ length ps → pushed ps closed l ≡ l ++ (record { points = ps; closed = closed } ∷ [])
-unfolding pushed
-pushed-piece ps closed l h = rw (le-ltb (length ps) 2 h) refl
+added-piece : (ps : List Vec2) (closed : Bool) (l : List Piece) → 2 ≤ length ps → addedPiece ps closed l ≡ l ++ (record { points = ps; closed = closed } ∷ [])
+unfolding addedPiece
+added-piece ps closed l h = rw (le-ltb (length ps) 2 h) refl
 
 -- ---- the parts
 
@@ -42,10 +44,10 @@ part-long a e w h k = region-long a e w (record { start = h; end = k })
 
 module _ (g : Grid) (n : ℕ) (words marks : List ℕ) (pts : List Float) (c : Count) (h : Tracing g n words marks pts c) where
   pub next-long : length (nextIn n words) ≡ 2 * n
-  next-long = let l = h .words-long in part-long (4 * n) (6 * n) words (omega arith) (omega arith) ∙ (let z : 6 * n - 4 * n ≡ 2 * n = omega arith in z)
+  next-long = let l = h .words-long in part-long (nextAt n) (rowsAt n) words (omega arith) (omega arith) ∙ (let z : rowsAt n - nextAt n ≡ 2 * n = omega arith in z)
 
   pub rows-long : length (rowsIn n words) ≡ 3 * n
-  rows-long = let l = h .words-long in part-long (6 * n) (9 * n) words (omega arith) (omega arith) ∙ (let z : 9 * n - 6 * n ≡ 3 * n = omega arith in z)
+  rows-long = let l = h .words-long in part-long (rowsAt n) (wordsEnd n) words (omega arith) (omega arith) ∙ (let z : wordsEnd n - rowsAt n ≡ 3 * n = omega arith in z)
 
   -- what `chain` asks
   pub chaining : (s : ℕ) → Startable g marks s → Chaining g (nextIn n words) marks pts (c .points) s
@@ -73,21 +75,18 @@ module _ (g : Grid) (n : ℕ) (words marks : List ℕ) (pts : List Float) (c : C
         let w = h .packed .within k b in
         ap (λ (l : List Vec2). record { points = l; closed = r .closed }) (points-same (r .first) (r .points) pts′ pts (λ i d. f .before (r .first + i) (omega arith))))
 
-    kept-is : length (deduped (map at (from .ids))) ≡ kept
-    kept-is = sym (ap length (f .points-is)) ∙ points-length (c .points) kept pts′
-
-    chained-is : chained at (nextIn n words) (length marks) s (chains marks (piecesIn n c words pts)) ≡ chains marks′ (pushed (points (c .points) kept pts′) closed (piecesIn n c words pts′))
+    chained-is : chained at (nextIn n words) (length marks) s (chains marks (piecesIn n c words pts)) ≡ chains marks′ (addedPiece (points (c .points) kept pts′) closed (piecesIn n c words pts′))
     unfolding chained
     chained-is =
-        ap (λ (m : List ℕ). chains m (pushed (deduped (map at (from .ids))) (from .closed) (piecesIn n c words pts))) (sym (f .marks-is))
-        ∙ ap (λ (l : List Vec2). chains marks′ (pushed l (from .closed) (piecesIn n c words pts))) (sym (f .points-is))
-        ∙ ap (λ (b : Bool). chains marks′ (pushed (points (c .points) kept pts′) b (piecesIn n c words pts))) (sym (f .closed-is))
-        ∙ ap (λ (l : List Piece). chains marks′ (pushed (points (c .points) kept pts′) closed l)) (sym old-pieces)
+        ap (λ (m : List ℕ). chains m (addedPiece (deduped (map at (from .ids))) (from .closed) (piecesIn n c words pts))) (sym (f .marks-is))
+        ∙ ap (λ (l : List Vec2). chains marks′ (addedPiece l (from .closed) (piecesIn n c words pts))) (sym (f .points-is))
+        ∙ ap (λ (b : Bool). chains marks′ (addedPiece (points (c .points) kept pts′) b (piecesIn n c words pts))) (sym (f .closed-is))
+        ∙ ap (λ (l : List Piece). chains marks′ (addedPiece (points (c .points) kept pts′) closed l)) (sym old-pieces)
 
     abbrev after : Chains
     after = chained at (nextIn n words) (2 * n) s (chains marks (piecesIn n c words pts))
 
-    after-is : after ≡ chains marks′ (pushed (points (c .points) kept pts′) closed (piecesIn n c words pts′))
+    after-is : after ≡ chains marks′ (addedPiece (points (c .points) kept pts′) closed (piecesIn n c words pts′))
     after-is = ap (λ (e : ℕ). chained at (nextIn n words) e s (chains marks (piecesIn n c words pts))) (sym (h .marks-long)) ∙ chained-is
 
     pub points-few : c .points + kept ≤ 2 * n
@@ -96,7 +95,7 @@ module _ (g : Grid) (n : ℕ) (words marks : List ℕ) (pts : List Float) (c : C
     -- too short for a piece
     pub traced-none : kept < 2 → Traced g n after words pts words marks′ pts′ c
     traced-none b = record {
-      is = sym (after-is ∙ ap (chains marks′) (pushed-few (points (c .points) kept pts′) closed (piecesIn n c words pts′) (omega (arith, points-length (c .points) kept pts′))));
+      is = sym (after-is ∙ ap (chains marks′) (added-few (points (c .points) kept pts′) closed (piecesIn n c words pts′) (omega (arith, points-length (c .points) kept pts′))));
       tracing = record {
         cells = h .cells;
         words-long = h .words-long;
@@ -140,22 +139,22 @@ module _ (g : Grid) (n : ℕ) (words marks : List ℕ) (pts : List Float) (c : C
           rw (i, row-here (c .pieces) fresh (rowsIn n words) (row-room b)) (omega arith));
     }
 
-    pub traced-more : 2 ≤ kept → (words′ : List ℕ) → words′ ≡ put (6 * n) (9 * n) rows′ words → Traced g n after words pts words′ marks′ pts′ next-count
+    pub traced-more : 2 ≤ kept → (words′ : List ℕ) → words′ ≡ put (rowsAt n) (wordsEnd n) rows′ words → Traced g n after words pts words′ marks′ pts′ next-count
     unfolding pieceOf
     traced-more b words′ e =
         let l = h .words-long in
-        let fits : Fits (6 * n) (9 * n) words = record { start = omega arith; end = omega arith } in
-        let long : length rows′ ≡ 9 * n - 6 * n = omega (arith, row-length (c .pieces) fresh (rowsIn n words), rows-long) in
-        let back : rowsIn n words′ ≡ rows′ = ap (rowsIn n) e ∙ put-back (6 * n) (9 * n) words rows′ fits long in
-        let segs : segmentsIn n words′ ≡ segmentsIn n words = ap (segmentsIn n) e ∙ put-before (6 * n) (9 * n) words rows′ fits long 0 (4 * n) (omega arith) (omega arith) in
-        let next : nextIn n words′ ≡ nextIn n words = ap (nextIn n) e ∙ put-before (6 * n) (9 * n) words rows′ fits long (4 * n) (6 * n) (omega arith) (omega arith) in
-        let len : length words′ ≡ length words = ap length e ∙ put-length (6 * n) (9 * n) words rows′ fits long in
+        let fits : Fits (rowsAt n) (wordsEnd n) words = record { start = omega arith; end = omega arith } in
+        let long : length rows′ ≡ wordsEnd n - rowsAt n = omega (arith, row-length (c .pieces) fresh (rowsIn n words), rows-long) in
+        let back : rowsIn n words′ ≡ rows′ = ap (rowsIn n) e ∙ put-back (rowsAt n) (wordsEnd n) words rows′ fits long in
+        let segs : segmentsIn n words′ ≡ segmentsIn n words = ap (segmentsIn n) e ∙ put-before (rowsAt n) (wordsEnd n) words rows′ fits long 0 (nextAt n) (omega arith) (omega arith) in
+        let next : nextIn n words′ ≡ nextIn n words = ap (nextIn n) e ∙ put-before (rowsAt n) (wordsEnd n) words rows′ fits long (nextAt n) (rowsAt n) (omega arith) (omega arith) in
+        let len : length words′ ≡ length words = ap length e ∙ put-length (rowsAt n) (wordsEnd n) words rows′ fits long in
         let pieces : piecesAt (c .pieces + 1) rows′ pts′ ≡ piecesIn n c words pts′ ++ (record { points = points (c .points) kept pts′; closed = closed } ∷ []) =
         ap (λ (m : ℕ). piecesAt m rows′ pts′) (let z : c .pieces + 1 ≡ suc (c .pieces) = omega arith in z) ∙ pieces-more (c .pieces) fresh (rowsIn n words) pts′ (row-room b) in
         record {
           is = ap (λ (r : List ℕ). chains marks′ (piecesAt (c .pieces + 1) r pts′)) back
               ∙ ap (chains marks′) pieces
-              ∙ sym (after-is ∙ ap (chains marks′) (pushed-piece (points (c .points) kept pts′) closed (piecesIn n c words pts′) (omega (arith, points-length (c .points) kept pts′))));
+              ∙ sym (after-is ∙ ap (chains marks′) (added-piece (points (c .points) kept pts′) closed (piecesIn n c words pts′) (omega (arith, points-length (c .points) kept pts′))));
           tracing = record {
             cells = h .cells;
             words-long = len ∙ l;
@@ -171,3 +170,16 @@ module _ (g : Grid) (n : ℕ) (words marks : List ℕ) (pts : List Float) (c : C
           words-long = len;
           pts-long = f .pts-long;
         }
+
+-- ---- the same with the places as they were worked out
+
+pub followed-there : (n : ℕ) (words : List ℕ) (at : ℕ → Vec2) (marks : List ℕ) (pts : List Float) (first s : ℕ) (marks′ : List ℕ) (pts′ : List Float) (kept : ℕ) (closed : Bool) (x y : ℕ)
+    → x ≡ nextAt n → y ≡ rowsAt n → Followed at (within x y words) marks pts first s marks′ pts′ kept closed → Followed at (nextIn n words) marks pts first s marks′ pts′ kept closed
+followed-there n words at marks pts first s marks′ pts′ kept closed x y X Y f =
+    subst (λ (k : ℕ). Followed at (within (nextAt n) k words) marks pts first s marks′ pts′ kept closed) Y
+    (subst (λ (k : ℕ). Followed at (within k y words) marks pts first s marks′ pts′ kept closed) X f)
+
+pub rows-there : (n : ℕ) (words : List ℕ) (k : ℕ) (r : Row) (y z : ℕ) → y ≡ rowsAt n → z ≡ wordsEnd n
+    → put y z (putRow k r (within y z words)) words ≡ put (rowsAt n) (wordsEnd n) (putRow k r (rowsIn n words)) words
+rows-there n words k r y z Y Z =
+    ap (λ (i : ℕ). put i z (putRow k r (within i z words)) words) Y ∙ ap (λ (i : ℕ). put (rowsAt n) i (putRow k r (within (rowsAt n) i words)) words) Z

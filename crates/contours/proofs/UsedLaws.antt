@@ -2,18 +2,18 @@
 use mathlib.Core.Path.{_≡_, refl, sym, ap, _∙_}
 use mathlib.Core.Bool.{Bool, true, false, _||_}
 use mathlib.Core.List.{List, [], _∷_, _++_}
-use Prim.Native.Nat.{ℕ, _+_, _<_}
+use Prim.Native.Nat.{ℕ, _<_}
 use native.Mathlib.Omega.{arith}
 use lib.ListN.{length, getD, set, length-set}
 use lib.Seq.{getD-set-same, getD-set-other}
 use lib.Dec.{eqb}
 use borrow.Author.Tests.{eqb-true, eqb-false, eq-eqb}
-use Rattle.loops.specs.Each.{Each}
 use Rattle.loops.specs.Loop.{Run, on, out, turn}
 use Rattle.loops.proofs.LoopLaws.{loop-keeps}
 use Rattle.loops.proofs.Cases.{by-cases, by-test, never, neither, or-false}
-use Rattle.contours.specs.Chain.{nothing, Leads, Walk, Chain, walk, stepTo, follow, chainOf, walkFrom, chainFrom}
-use Rattle.contours.specs.Used.{used, has, Once, Follows, Owns, edges}
+use Rattle.contours.specs.Chain.{Leads, Walk, Chain, stepTo, follow, chainOf, walkFrom, chainFrom}
+use Rattle.contours.specs.Edge.{nothing}
+use Rattle.contours.specs.Used.{used, has, Once, Follows, Owns}
 
 -- ---- lists of numbers
 

@@ -1,32 +1,26 @@
--- Segments joined end to end into pieces: the second half of `contours` of adaptive.rs. Its hash tables, keyed by edges, are tables by edge number. Definitions only.
+-- Segments inserted end to end into pieces: the second half of `contours` of adaptive.rs. Its hash tables, keyed by edges, are tables by edge number. Definitions only.
 use Prim.Native.Nat.{ℕ, _+_, _*_, _≤_, _<_}
 use mathlib.Core.Path.{_≡_}
 use mathlib.Core.Bool.{Bool, true, false, cond, not}
 use mathlib.Core.List.{List, [], _∷_, _++_, map}
 use lib.ListN.{length, getD, set, replicate}
-use lib.Dec.{eqb, ltb}
-use lib.Ieee.{Float, binary64, ofBits, lt}
+use lib.Dec.{eqb}
+use lib.Ieee.{Float}
 use Rattle.loops.specs.Each.{over}
 use Rattle.loops.specs.Loop.{loop, Run, on, out, turn}
-use Rattle.geom.specs.Vec.{distanceOf}
 use Rattle.geom.specs.declared.vec2.Vec2.{Vec2}
-use Rattle.contours.specs.March.{march}
 use Rattle.contours.specs.declared.square.Segment.{Segment}
 use Rattle.geom.specs.Points.{points, putPoint}
 use Rattle.geom.specs.Region.{vertexOf}
 use Rattle.loops.specs.Cells.{ones}
 use Rattle.raster.specs.declared.grid.Grid.{Grid}
-use Rattle.contours.specs.Edge.{Between, crossingAt}
-use Rattle.contours.specs.Piece.{Piece}
-use Rattle.contours.specs.declared.edge.EdgeNo.{EdgeNo}
+use Rattle.contours.specs.Edge.{edge, nothing, Between, crossingAt}
+use Rattle.contours.specs.Curve.{near, thinned, deduped, addedPiece}
+use Rattle.pieces.specs.Piece.{Piece}
 use Rattle.contours.specs.declared.chain.Trail.{Trail}
 
--- stands for no edge
-abbrev pub nothing : ℕ
-nothing = 4294967295
-
--- `next` has the edge that follows an edge. A mark is 1 where the edge is used, 2 where a segment leads into it, else 0: that a segment leads in is asked only of
--- edges that are not used.
+-- `next` has the edge that follows an edge. `marks` has a byte for both sets: 1 where the edge is used, 2 where a segment leads into it, else 0. That a segment leads in
+-- is asked only of edges that are not used.
 pub record Tables : Type 0 where
   pub next : List ℕ
   pub marks : List ℕ
@@ -35,15 +29,15 @@ abbrev pub tables : List ℕ → List ℕ → Tables
 tables next marks = record { next = next; marks = marks }
 
 -- next.insert(a, b); has_prev.insert(b): of segments that leave one edge, the last one counts
-unfoldable pub joined : Segment → Tables → Tables
-joined s t = tables (set (t .next) (s .from .0) (s .to .0)) (set (t .marks) (s .to .0) 2)
+unfoldable pub inserted : Segment → Tables → Tables
+inserted s t = tables (set (t .next) (s .from .0) (s .to .0)) (set (t .marks) (s .to .0) 2)
 
 abbrev pub blank : ℕ → Tables
 blank e = tables (replicate e nothing) (replicate e 0)
 
 -- the tables of e edges
 unfoldable pub tablesOf : ℕ → List Segment → Tables
-tablesOf e segs = over joined segs (blank e)
+tablesOf e segs = over inserted segs (blank e)
 
 -- each edge that follows one is of P
 pub record Leads (P : ℕ → Type 0) (next : List ℕ) : Type 0 where
@@ -91,35 +85,18 @@ chainFrom next e marks s = chainOf (loop (turn (follow next s)) 0 e (on (walkFro
 
 -- ---- its points
 
--- 1e-9
-abbrev pub tight : Float
-tight = ofBits binary64 0x3e11_2e0b_e826_d695
-
-abbrev pub near : Vec2 → Vec2 → Bool
-near p q = lt (distanceOf p q) tight
-
--- the points after q, which is kept, without those near the last one kept
-unfoldable pub thinned : Vec2 → List Vec2 → List Vec2
-thinned q [] = []
-thinned q (p ∷ ps) = cond (near p q) (thinned q ps) (p ∷ thinned p ps)
-
--- pts.dedup_by(|a, b| a.distance(*b) < 1e-9)
-unfoldable pub deduped : List Vec2 → List Vec2
-deduped [] = []
-deduped (p ∷ ps) = p ∷ thinned p ps
-
 -- the last of points, q where there is none
-unfoldable pub lastOf : Vec2 → List Vec2 → Vec2
-lastOf q [] = q
-lastOf q (p ∷ ps) = lastOf p ps
+unfoldable pub lastFrom : Vec2 → List Vec2 → Vec2
+lastFrom q [] = q
+lastFrom q (p ∷ ps) = lastFrom p ps
 
 -- the last one that is kept of p and ps
 abbrev pub lastKept : Vec2 → List Vec2 → Vec2
-lastKept p ps = lastOf p (thinned p ps)
+lastKept p ps = lastFrom p (thinned p ps)
 
 -- p is the next point of a chain, unless it is near the last one kept
-unfoldable pub keptOf : Vec2 → Trail → Trail
-keptOf p t = cond (near p (t .last)) t (record { kept = t .kept + 1; last = p })
+unfoldable pub extended : Vec2 → Trail → Trail
+extended p t = cond (near p (t .last)) t (record { kept = t .kept + 1; last = p })
 
 unfoldable pub putKept : ℕ → Vec2 → Trail → List Float → List Float
 putKept first p t w = cond (near p (t .last)) w (putPoint (first + t .kept) p w)
@@ -131,12 +108,9 @@ pub record Trailing (first : ℕ) (q : Vec2) (ps : List Vec2) (t : Trail) (w : L
 
 -- ---- a chain in slices
 
-abbrev pub edge : ℕ → EdgeNo
-edge n = record { 0 = n }
-
 -- where the field crosses the level on edge n
-abbrev pub pointAt : Grid → List Float → Float → ℕ → Vec2
-pointAt g f level n = crossingAt g f level (edge n)
+abbrev pub edgePoint : Grid → List Float → Float → ℕ → Vec2
+edgePoint g f level n = crossingAt g f level (edge n)
 
 -- the tables are of the grid's edges, edge s is one and not used, and each point before `first` has a used edge of its own
 pub record Chaining (g : Grid) (next marks : List ℕ) (pts : List Float) (first s : ℕ) : Type 0 where
@@ -167,10 +141,6 @@ pub record Chains : Type 0 where
 abbrev pub chains : List ℕ → List Piece → Chains
 chains marks pieces = record { marks = marks; pieces = pieces }
 
--- a chain of two points or more is a piece
-unfoldable pub pushed : List Vec2 → Bool → List Piece → List Piece
-pushed ps closed pieces = cond (ltb (length ps) 2) pieces (pieces ++ (record { points = ps; closed = closed } ∷ []))
-
 -- whether a chain starts at an edge of this mark: at first only where nothing leads in, then wherever it is not used
 abbrev pub startsAt : Bool → ℕ → Bool
 startsAt first mark = cond first (eqb mark 0) (not (eqb mark 1))
@@ -180,7 +150,7 @@ module _ (at : ℕ → Vec2) (next : List ℕ) (e : ℕ) where
   unfoldable pub chained : ℕ → Chains → Chains
   chained s c =
       let k = chainFrom next e (c .marks) s in
-      chains (k .marks) (pushed (deduped (map at (k .ids))) (k .closed) (c .pieces))
+      chains (k .marks) (addedPiece (deduped (map at (k .ids))) (k .closed) (c .pieces))
 
   unfoldable pub startAt : Bool → ℕ → Chains → Chains
   startAt first s c = cond (startsAt first (getD (c .marks) s 0)) (chained s c) c
@@ -190,10 +160,7 @@ module _ (at : ℕ → Vec2) (next : List ℕ) (e : ℕ) where
   chainAll first segs c = over (λ (s : Segment). startAt first (s .from .0)) segs c
 
 -- open chains first, then loops
-unfoldable pub piecesOf : (ℕ → Vec2) → ℕ → List Segment → List Piece
-piecesOf at e segs =
+unfoldable pub chainedPieces : (ℕ → Vec2) → ℕ → List Segment → List Piece
+chainedPieces at e segs =
     let t = tablesOf e segs in
     chainAll at (t .next) e false segs (chainAll at (t .next) e true segs (chains (t .marks) [])) .pieces
-
-unfoldable pub contoursOf : Grid → List Float → Float → List Piece
-contoursOf g f level = piecesOf (pointAt g f level) (2 * (g .ny * g .nx)) (march g f level)

@@ -14,6 +14,16 @@ use Rattle.raster.specs.declared.grid.Grid.{Grid}
 use Rattle.raster.specs.declared.grid.CellNo.{CellNo}
 use Rattle.contours.specs.declared.edge.EdgeNo.{EdgeNo}
 
+abbrev pub edge : ℕ → EdgeNo
+edge n = record { 0 = n }
+
+-- stands for no edge
+abbrev pub nothing : ℕ
+nothing = 4294967295
+
+abbrev pub sameEdge : EdgeNo → EdgeNo → Bool
+sameEdge a b = eqb (a .0) (b .0)
+
 -- the edge to the right of cell c, and the one upward of it
 unfoldable pub acrossOf : CellNo → EdgeNo
 acrossOf c = record { 0 = 2 * c .0 }

@@ -1,9 +1,10 @@
 -- What the contracts of `contours` cite.
 pub mod Edge
-pub mod Piece
 pub mod Square
 pub mod March
+pub mod Curve
 pub mod Chain
+pub mod Held
+pub mod Places
 pub mod Traced
 pub mod Used
-pub mod Smooth

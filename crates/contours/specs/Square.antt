@@ -109,16 +109,16 @@ cornersOf g q = record {
   c3 = corner (centerOf g (q .i) (q .j + 1)) (q .v3);
 }
 
-abbrev pub near : Corner → Float → Near
-near c d = record { corner = c; distance = d }
+abbrev pub nearAt : Corner → Float → Near
+nearAt c d = record { corner = c; distance = d }
 
 -- a corner takes the place of one that is farther
 unfoldable pub nearerOf : Vec2 → Corner → Near → Near
-nearerOf mid c n = cond (lt (distanceOf (c .at) mid) (n .distance)) (near c (distanceOf (c .at) mid)) n
+nearerOf mid c n = cond (lt (distanceOf (c .at) mid) (n .distance)) (nearAt c (distanceOf (c .at) mid)) n
 
 -- the fold begins with corner 0 at infinity
 unfoldable pub nearestOf : Corners → Vec2 → Corner
-nearestOf cs mid = nearerOf mid (cs .c3) (nearerOf mid (cs .c2) (nearerOf mid (cs .c1) (nearerOf mid (cs .c0) (near (cs .c0) (inf false))))) .corner
+nearestOf cs mid = nearerOf mid (cs .c3) (nearerOf mid (cs .c2) (nearerOf mid (cs .c1) (nearerOf mid (cs .c0) (nearAt (cs .c0) (inf false))))) .corner
 
 -- left == high, of the corner nearest to the middle
 unfoldable pub turnedOf : Corners → Float → Vec2 → Vec2 → Bool

@@ -38,19 +38,19 @@ pub record Owns (next : List ℕ) (s : ℕ) (marks marks′ ids : List ℕ) : Ty
 
 -- ---- all chains: the edges they follow, one chain behind the other
 
-pub record Edges : Type 0 where
+pub record Visits : Type 0 where
   pub marks : List ℕ
   pub ids : List ℕ
 
-abbrev pub edges : List ℕ → List ℕ → Edges
-edges marks ids = record { marks = marks; ids = ids }
+abbrev pub visits : List ℕ → List ℕ → Visits
+visits marks ids = record { marks = marks; ids = ids }
 
-unfoldable pub followedAt : List ℕ → ℕ → Bool → ℕ → Edges → Edges
-followedAt next e first s t = let c = chainFrom next e (t .marks) s in cond (startsAt first (getD (t .marks) s 0)) (edges (c .marks) (t .ids ++ c .ids)) t
+unfoldable pub followedAt : List ℕ → ℕ → Bool → ℕ → Visits → Visits
+followedAt next e first s t = let c = chainFrom next e (t .marks) s in cond (startsAt first (getD (t .marks) s 0)) (visits (c .marks) (t .ids ++ c .ids)) t
 
-unfoldable pub followedAll : List ℕ → ℕ → Bool → List Segment → Edges → Edges
+unfoldable pub followedAll : List ℕ → ℕ → Bool → List Segment → Visits → Visits
 followedAll next e first segs t = over (λ (s : Segment). followedAt next e first (s .from .0)) segs t
 
 -- the edges of the open chains and then of the loops
-unfoldable pub followedOf : ℕ → List Segment → Edges
-followedOf e segs = let t = tablesOf e segs in followedAll (t .next) e false segs (followedAll (t .next) e true segs (edges (t .marks) []))
+unfoldable pub followedOf : ℕ → List Segment → Visits
+followedOf e segs = let t = tablesOf e segs in followedAll (t .next) e false segs (followedAll (t .next) e true segs (visits (t .marks) []))

@@ -4,16 +4,26 @@ ghost use Prim.Native.Nat.{_+_, _*_, _≤_, _<_};
 ghost use lib.ListN.{length};
 ghost use Rattle.loops.specs.Each.{Each};
 ghost use Rattle.raster.specs.Grid.{Over};
-ghost use Rattle.contours.specs.Chain.{keptOf, putKept, pointAt, Chaining, Followed, edge, chains, chained, startsAt, startAt, chainAll};
-ghost use Rattle.contours.specs.Traced.{nextIn, segmentsAt, piecesIn, Startable, Tracing, Traced};
 ghost use Rattle.contours.specs.Edge.{Between};
 ghost use Rattle.contours.specs.Square.{Joins};
+ghost use Rattle.contours.specs.Chain.{extended, putKept, edgePoint, Chaining, Followed, startsAt};
+ghost use Rattle.contours.specs.Traced.{segmentsAt, slices, Startable, Tracing, TakenUp, Started, AllStarted};
 use super::edge::EdgeNo;
 use super::edge::crossing;
-use super::piece::Row;
-use super::piece::put_piece;
-use super::tables::NOTHING;
+use super::edge::edge_at;
+use super::edge::index_of_edge;
+use super::edge::is_nothing;
+use super::edge::same_edge;
+use super::places::next_at;
+use super::places::rows_at;
+use super::places::words_end;
+use super::tables::after;
+use super::tables::is_used;
+use super::tables::use_edge;
 use geom::vec2::Vec2;
+use pieces::row::Count;
+use pieces::row::Row;
+use pieces::row::put_row;
 use raster::grid::Grid;
 
 // How many points of a chain are kept, and the last of them.
@@ -25,7 +35,7 @@ pub struct Trail {
 // p is the next point, unless it is near the last one.
 fn extend(pts: &mut [f64], first: usize, t: Trail, p: Vec2) -> Trail
     requires { ⌜ 2 * (first + t .kept) + 1 < length (now pts) ⌝ }
-    ensures { λ r. ⌜ (r ≡ keptOf p t) × (now (pts .exit) ≡ putKept first p t (now (pts .entry))) ⌝ }
+    ensures { λ r. ⌜ (r ≡ extended p t) × (now (pts .exit) ≡ putKept first p t (now (pts .entry))) ⌝ }
 {
     let last = t.last;
     if p.distance(last) < 1e-9 {
@@ -54,47 +64,41 @@ fn chain(
     marks: &mut [u8],
     pts: &mut [f64],
     first: usize,
-    s: u32,
+    s: EdgeNo,
 ) -> Chained
     requires { ⌜ Over g (length (now f)) ⌝ }
-    requires { ⌜ Chaining g (now next) (now marks) (now pts) first s ⌝ }
-    ensures { λ r. ⌜ Followed (pointAt g (now (f .entry)) level) (now (next .entry)) (now (marks .entry)) (now (pts .entry)) first s (now (marks .exit)) (now (pts .exit)) (r .kept) (r .closed) ⌝ }
+    requires { ⌜ Chaining g (now next) (now marks) (now pts) first (s .0) ⌝ }
+    ensures { λ r. ⌜ Followed (edgePoint g (now (f .entry)) level) (now (next .entry)) (now (marks .entry)) (now (pts .entry)) first (s .0) (now (marks .exit)) (now (pts .exit)) (r .kept) (r .closed) ⌝ }
 {
-    let mut cur = s as usize;
-    marks[cur] = 1;
-    let p = crossing(g, f, level, EdgeNo(s));
+    use_edge(marks, s);
+    let p = crossing(g, f, level, s);
     geom::points::put(pts, first, p);
+    let mut cur = s;
     let mut t = Trail { kept: 1, last: p };
     loop {
-        let n = next[cur];
-        if n == NOTHING {
+        let n = after(next, cur);
+        if is_nothing(n) {
             return Chained {
                 kept: t.kept,
                 closed: false,
             };
         }
-        if n == s {
+        if same_edge(n, s) {
             return Chained {
                 kept: t.kept,
                 closed: true,
             };
         }
-        cur = n as usize;
-        if marks[cur] == 1 {
+        if is_used(marks, n) {
             return Chained {
                 kept: t.kept,
                 closed: false,
             };
         }
-        marks[cur] = 1;
-        t = extend(pts, first, t, crossing(g, f, level, EdgeNo(n)));
+        use_edge(marks, n);
+        t = extend(pts, first, t, crossing(g, f, level, n));
+        cur = n;
     }
-}
-
-// How many pieces there are, and points in all.
-pub struct Count {
-    pub pieces: usize,
-    pub points: usize,
 }
 
 // The chain from edge s on, a piece if it has two points.
@@ -107,22 +111,25 @@ fn take_up(
     marks: &mut [u8],
     pts: &mut [f64],
     c: Count,
-    s: u32,
+    s: EdgeNo,
 ) -> Count
     requires { ⌜ Over g (length (now f)) ⌝ }
     requires { ⌜ Tracing g n (now words) (now marks) (now pts) c ⌝ }
-    requires { ⌜ Startable g (now marks) s ⌝ }
-    ensures { λ r. ⌜ Traced g n (chained (pointAt g (now (f .entry)) level) (nextIn n (now (words .entry))) (2 * n) s (chains (now (marks .entry)) (piecesIn n c (now (words .entry)) (now (pts .entry))))) (now (words .entry)) (now (pts .entry)) (now (words .exit)) (now (marks .exit)) (now (pts .exit)) r ⌝ }
+    requires { ⌜ Startable g (now marks) (s .0) ⌝ }
+    ensures { λ r. ⌜ TakenUp g (now (f .entry)) level n (s .0) c (slices (now (words .entry)) (now (marks .entry)) (now (pts .entry))) r (slices (now (words .exit)) (now (marks .exit)) (now (pts .exit))) ⌝ }
 {
     let first = c.points;
-    let k = chain(g, f, level, &words[4 * n..6 * n], marks, pts, first, s);
+    let next = next_at(n);
+    let rows = rows_at(n);
+    let end = words_end(n);
+    let k = chain(g, f, level, &words[next..rows], marks, pts, first, s);
     let kept = k.kept;
     if kept < 2 {
         return c;
     }
     let pieces = c.pieces;
-    put_piece(
-        &mut words[6 * n..9 * n],
+    put_row(
+        &mut words[rows..end],
         pieces,
         Row {
             first: first as u32,
@@ -154,14 +161,14 @@ fn start_at(
     pts: &mut [f64],
     c: Count,
     first: bool,
-    s: u32,
+    s: EdgeNo,
 ) -> Count
     requires { ⌜ Over g (length (now f)) ⌝ }
     requires { ⌜ Tracing g n (now words) (now marks) (now pts) c ⌝ }
-    requires { ⌜ Between g (edge s) ⌝ }
-    ensures { λ r. ⌜ Traced g n (startAt (pointAt g (now (f .entry)) level) (nextIn n (now (words .entry))) (2 * n) first s (chains (now (marks .entry)) (piecesIn n c (now (words .entry)) (now (pts .entry))))) (now (words .entry)) (now (pts .entry)) (now (words .exit)) (now (marks .exit)) (now (pts .exit)) r ⌝ }
+    requires { ⌜ Between g s ⌝ }
+    ensures { λ r. ⌜ Started g (now (f .entry)) level n first (s .0) c (slices (now (words .entry)) (now (marks .entry)) (now (pts .entry))) r (slices (now (words .exit)) (now (marks .exit)) (now (pts .exit))) ⌝ }
 {
-    if starts(first, marks[s as usize]) {
+    if starts(first, marks[index_of_edge(s)]) {
         return take_up(g, f, level, n, words, marks, pts, c, s);
     }
     c
@@ -184,11 +191,11 @@ pub fn chain_all(
     requires { ⌜ m ≤ 2 * n ⌝ }
     requires { ⌜ Each (Joins g) (segmentsAt n m (now words)) ⌝ }
     requires { ⌜ Tracing g n (now words) (now marks) (now pts) so ⌝ }
-    ensures { λ r. ⌜ Traced g n (chainAll (pointAt g (now (f .entry)) level) (nextIn n (now (words .entry))) (2 * n) first (segmentsAt n m (now (words .entry))) (chains (now (marks .entry)) (piecesIn n so (now (words .entry)) (now (pts .entry))))) (now (words .entry)) (now (pts .entry)) (now (words .exit)) (now (marks .exit)) (now (pts .exit)) r ⌝ }
+    ensures { λ r. ⌜ AllStarted g (now (f .entry)) level n first m so (slices (now (words .entry)) (now (marks .entry)) (now (pts .entry))) r (slices (now (words .exit)) (now (marks .exit)) (now (pts .exit))) ⌝ }
 {
     let mut c = so;
     for k in 0..m {
-        let s = words[2 * k];
+        let s = edge_at(words, 2 * k);
         c = start_at(g, f, level, n, words, marks, pts, c, first, s);
     }
     c

@@ -2,18 +2,57 @@
 // an edge is twice its lower cell's, and one more where it goes up.
 ghost use mathlib.Core.Path.{_≡_};
 ghost use Prim.Native.Nat.{_<_, _^_};
-ghost use lib.ListN.{length};
+ghost use lib.ListN.{length, getD, set};
+ghost use lib.Dec.{eqb};
 ghost use Rattle.raster.specs.Grid.{Sides, Over};
-ghost use Rattle.contours.specs.Edge.{acrossOf, upwardOf, lowerOf, isUpward, Between, farOf, farCenter, alongOf, crossingAt};
+ghost use Rattle.contours.specs.Edge.{edge, nothing, sameEdge, acrossOf, upwardOf, lowerOf, isUpward, Between, farOf, farCenter, alongOf, crossingAt};
 use geom::vec2::Vec2;
 use raster::grid::CellNo;
 use raster::grid::Grid;
+use raster::grid::cell_at;
 use raster::grid::center;
 use raster::grid::column_of;
 use raster::grid::index_of;
 use raster::grid::row_of;
 
+// The number of an edge, or NOTHING where there is none.
 pub struct EdgeNo(pub u32);
+
+pub const NOTHING: u32 = 4294967295;
+
+pub fn is_nothing(e: EdgeNo) -> bool
+    ensures { λ b. ⌜ b ≡ eqb (e .0) nothing ⌝ }
+{
+    e.0 == NOTHING
+}
+
+pub fn same_edge(a: EdgeNo, b: EdgeNo) -> bool
+    ensures { λ t. ⌜ t ≡ sameEdge a b ⌝ }
+{
+    a.0 == b.0
+}
+
+// An edge's place in a table.
+pub fn index_of_edge(e: EdgeNo) -> usize
+    ensures { λ k. ⌜ k ≡ e .0 ⌝ }
+{
+    e.0 as usize
+}
+
+// The edge that the words have at i.
+pub fn edge_at(words: &[u32], i: usize) -> EdgeNo
+    requires { ⌜ i < length (now words) ⌝ }
+    ensures { λ e. ⌜ e ≡ edge (getD (now (words .entry)) i 0) ⌝ }
+{
+    EdgeNo(words[i])
+}
+
+pub fn put_edge(words: &mut [u32], i: usize, e: EdgeNo)
+    requires { ⌜ i < length (now words) ⌝ }
+    ensures { λ _. ⌜ now (words .exit) ≡ set (now (words .entry)) i (e .0) ⌝ }
+{
+    words[i] = e.0;
+}
 
 // The edge to the right of a cell, and the one upward of it.
 pub fn across(c: CellNo) -> EdgeNo
@@ -42,14 +81,18 @@ pub fn is_upward(e: EdgeNo) -> bool
     e.0 % 2 == 1
 }
 
-// The place of the other cell in the field.
-fn far(g: Grid, e: EdgeNo) -> usize
+// The other cell.
+fn far_cell(g: Grid, e: EdgeNo) -> CellNo
     requires { ⌜ Sides g ⌝ }
     requires { ⌜ Between g e ⌝ }
-    ensures { λ k. ⌜ k ≡ farOf g e ⌝ }
+    ensures { λ c. ⌜ c .0 ≡ farOf g e ⌝ }
 {
     let k = index_of(lower_cell(e));
-    if is_upward(e) { k + g.nx } else { k + 1 }
+    if is_upward(e) {
+        cell_at(k + g.nx)
+    } else {
+        cell_at(k + 1)
+    }
 }
 
 // The other cell's centre; (i, j) is the lower cell.
@@ -86,7 +129,7 @@ pub fn crossing(g: Grid, f: &[f32], level: f32, e: EdgeNo) -> Vec2
     let i = column_of(g, c);
     let j = row_of(g, c);
     let fa = std::num::f32_to_f64_with_nan(f[index_of(c)]);
-    let fb = std::num::f32_to_f64_with_nan(f[far(g, e)]);
+    let fb = std::num::f32_to_f64_with_nan(f[index_of(far_cell(g, e))]);
     let t = along(fa, fb, std::num::f32_to_f64_with_nan(level));
     center(g, i, j).lerp(far_center(g, e, i, j), t)
 }

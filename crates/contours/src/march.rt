@@ -6,7 +6,7 @@ ghost use lib.ListN.{length};
 ghost use Rattle.raster.specs.Grid.{Over};
 ghost use Rattle.contours.specs.Square.{InGrid, Joins, directedOf};
 ghost use Rattle.contours.specs.March.{segmentsOf, putSegment, marchCode, marchSquare, marchRow, march, Gathered};
-use super::edge::EdgeNo;
+use super::edge::put_edge;
 use super::square::Saddle;
 use super::square::Segment;
 use super::square::Square;
@@ -20,14 +20,14 @@ use super::square::saddle_of;
 use super::square::square_at;
 use raster::grid::Grid;
 
-// Segment k, read and written.
+// Segment k becomes s.
 fn put(segs: &mut [u32], k: usize, s: Segment)
     requires { ⌜ 2 * k + 1 < length (now segs) ⌝ }
     ensures { λ _. ⌜ now (segs .exit) ≡ putSegment k s (now (segs .entry)) ⌝ }
 {
     let i = 2 * k;
-    segs[i] = s.from.0;
-    segs[i + 1] = s.to.0;
+    put_edge(segs, i, s.from);
+    put_edge(segs, i + 1, s.to);
 }
 
 // Puts the segment behind n others, turned so that the higher field is on its right.

@@ -12,6 +12,7 @@ use geom::vec2::Vec2;
 use raster::grid::Grid;
 use raster::grid::cell_no;
 use raster::grid::center;
+use raster::grid::index_of;
 
 // The lower left column and row, and the field at the corners.
 pub struct Square {
@@ -65,7 +66,7 @@ pub fn square_at(g: Grid, f: &[f32], i: usize, j: usize) -> Square
     ensures { λ q. ⌜ q ≡ squareAt g (now (f .entry)) i j ⌝ }
 {
     let nx = g.nx;
-    let k = j * nx + i;
+    let k = index_of(cell_no(g, i, j));
     Square {
         i,
         j,

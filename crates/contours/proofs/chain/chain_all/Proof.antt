@@ -3,9 +3,12 @@ use mathlib.Core.Path.{_≡_, refl, sym, ap, _∙_, subst}
 use Prim.Native.Nat.{ℕ, _+_, _-_, _*_, _≤_, _<_}
 use native.Mathlib.Omega.{arith}
 use lib.ListN.{length, getD}
+use Rattle.contours.specs.Edge.{edge, Between}
 use Rattle.contours.specs.Square.{segment, Joins}
-use Rattle.contours.specs.Chain.{edge, chains, pointAt}
+use Rattle.contours.specs.Places.{nextAt, wordsEnd}
+use Rattle.contours.specs.Chain.{chains, edgePoint}
 use Rattle.contours.specs.Traced.{piecesIn, Traced}
+use Rattle.contours.specs.declared.edge.EdgeNo.{EdgeNo}
 use Rattle.contours.specs.declared.square.Segment.{Segment}
 use Rattle.contours.proofs.TableLaws.{segment-read, segment-each}
 use Rattle.contours.proofs.TourLaws.{toured, tour-none, tour-more}
@@ -13,7 +16,7 @@ use Rattle.contours.proofs.chain.chain_all.Statement.{statement}
 use Rattle.contours.proofs.chain.chain_all.Tie as tie
 
 abbrev Inv-loop : tie.InvT-loop
-Inv-loop g f level n m words₀ marks₀ pts₀ first c₀ k₀ words marks pts c k = Traced g n (toured (pointAt g f level) g n first words₀ pts₀ (chains marks₀ (piecesIn n c₀ words₀ pts₀)) k) words₀ pts₀ words marks pts c × (k ≤ m)
+Inv-loop g f level n m words₀ marks₀ pts₀ first c₀ k₀ words marks pts c k = Traced g n (toured (edgePoint g f level) g n first words₀ pts₀ (chains marks₀ (piecesIn n c₀ words₀ pts₀)) k) words₀ pts₀ words marks pts c × (k ≤ m)
 
 abbrev μ-loop : tie.MeasureT-loop
 μ-loop g f level n m words₀ marks₀ pts₀ first c₀ k₀ words marks pts c k = m - k
@@ -25,7 +28,7 @@ joins c =
     segment-each (Joins (c .before .before .before .before .before .before .args .g)) _ _ _ _ _ (p .1 .1 .0) (c .before .loop .inv .0 .segments-kept) (p .1 .0) (c .loop-test .taken)
 
 -- and its place is within the words
-placed : (c : tie.In-loop Inv-loop μ-loop) → let a = c .before .before .before .before .before .before .args in (2 * c .before .loop .k + 1 < 4 * a .n) × (length (c .before .loop .words) ≡ 9 * a .n) × (a .n ≤ 1048576)
+placed : (c : tie.In-loop Inv-loop μ-loop) → let a = c .before .before .before .before .before .before .args in (2 * c .before .loop .k + 1 < nextAt (a .n)) × (length (c .before .loop .words) ≡ wordsEnd (a .n)) × (a .n ≤ 1048576)
 placed c =
     let p = c .before .before .before .before .before .before .pre in
     let t = c .before .loop .inv .0 .tracing in
@@ -34,32 +37,29 @@ placed c =
 loop-holds : tie.Need-loop-holds Inv-loop μ-loop
 loop-holds c = (tour-none _ _ _ _ _ _ _ _ _ refl (c .before .before .before .before .pre .1 .1 .1), omega arith)
 
-mul-s : tie.Need-mul-s Inv-loop μ-loop
-mul-s c = omega (arith, placed c .0, placed c .2)
+mul-edge-at : tie.Need-mul-edge-at Inv-loop μ-loop
+mul-edge-at c = omega (arith, placed (c .before) .0, placed (c .before) .2)
 
-mul-s-2 : tie.Need-mul-s-2 Inv-loop μ-loop
-mul-s-2 c = omega (arith, placed c .0, placed c .2)
-
-slice-read-s : tie.Need-slice-read-s Inv-loop μ-loop
-slice-read-s c = let h = placed (c .before) in omega (arith, h .0, h .1)
+edge-at-requires : tie.Need-edge-at-requires Inv-loop μ-loop
+edge-at-requires c κs = let h = placed (c .before) in omega (arith, h .0, h .1)
 
 start-at-requires : tie.Need-start-at-requires Inv-loop μ-loop
-start-at-requires c κs = (c .before .before .before .before .before .before .before .before .before .before .pre .0, (c .before .before .before .before .before .loop .inv .0 .tracing, joins (c .before .before .before .before) .from))
+start-at-requires c κs = (c .before .before .before .before .before .before .before .before .before .before .before .pre .0, (c .before .before .before .before .before .before .loop .inv .0 .tracing, subst (Between (c .before .before .before .before .before .before .before .before .before .before .before .args .g)) (sym (c .before .before .before .edge-at .ensures)) (joins (c .before .before .before .before .before) .from)))
 
 add-k : tie.Need-add-k Inv-loop μ-loop
-add-k c = let h = placed (c .before .before .before .before .before .before .before .before .before .before .before) in omega (arith, h .0, h .2)
+add-k c = let h = placed (c .before .before .before .before .before .before .before .before .before .before .before .before) in omega (arith, h .0, h .2)
 
 loop-less : tie.Need-loop-less Inv-loop μ-loop
-loop-less c = omega (arith, c .before .before .before .before .before .before .before .before .before .before .before .loop-test .taken)
+loop-less c = omega (arith, c .before .before .before .before .before .before .before .before .before .before .before .before .loop-test .taken)
 
 loop-again : tie.Need-loop-again Inv-loop μ-loop
 loop-again c =
-    let l = c .before .before .before .before .before .before .before .before .before .before .before .before .loop in
-    let a = c .before .before .before .before .before .before .before .before .before .before .before .before .before .before .before .before .before .args in
-    let h = placed (c .before .before .before .before .before .before .before .before .before .before .before) in (
-      tour-more (pointAt (a .g) (a .f .now) (a .level)) (a .g) (a .n) (a .first) (a .words .now) (a .pts .now) _ (l .k) (l .words) (l .marks) (l .pts) (l .c) (l .inv .0) _
-          (sym (ap (λ (s : Segment). s .from .0) (segment-read (a .n) (l .k) (a .words .now) (l .words) (l .inv .0 .segments-kept) (h .0)))) _ _ _ _ (c .before .before .before .before .before .before .start-at .ensures),
-      omega (arith, c .before .before .before .before .before .before .before .before .before .before .before .loop-test .taken),
+    let l = c .before .before .before .before .before .before .before .before .before .before .before .before .before .loop in
+    let a = c .before .before .before .before .before .before .before .before .before .before .before .before .before .before .before .before .before .before .args in
+    let h = placed (c .before .before .before .before .before .before .before .before .before .before .before .before) in (
+      tour-more (edgePoint (a .g) (a .f .now) (a .level)) (a .g) (a .n) (a .first) (a .words .now) (a .pts .now) _ (l .k) (l .words) (l .marks) (l .pts) (l .c) (l .inv .0) _
+          (ap (λ (e : EdgeNo). e .0) (c .before .before .before .before .before .before .before .before .before .before .edge-at .ensures) ∙ sym (ap (λ (s : Segment). s .from .0) (segment-read (a .n) (l .k) (a .words .now) (l .words) (l .inv .0 .segments-kept) (h .0)))) _ _ _ _ (c .before .before .before .before .before .before .start-at .ensures),
+      omega (arith, c .before .before .before .before .before .before .before .before .before .before .before .before .loop-test .taken),
     )
 
 same-length : tie.Need-same-length Inv-loop μ-loop
@@ -76,7 +76,7 @@ returns c =
     let l = c .before .loop in
     let a = c .before .before .before .before .before .before .args in
     subst
-    (λ (k : ℕ). Traced (a .g) (a .n) (toured (pointAt (a .g) (a .f .now) (a .level)) (a .g) (a .n) (a .first) (a .words .now) (a .pts .now) (chains (a .marks .now) (piecesIn (a .n) (a .so) (a .words .now) (a .pts .now))) k) (a .words .now) (a .pts .now) (l .words) (l .marks) (l .pts) (l .c))
+    (λ (k : ℕ). Traced (a .g) (a .n) (toured (edgePoint (a .g) (a .f .now) (a .level)) (a .g) (a .n) (a .first) (a .words .now) (a .pts .now) (chains (a .marks .now) (piecesIn (a .n) (a .so) (a .words .now) (a .pts .now))) k) (a .words .now) (a .pts .now) (l .words) (l .marks) (l .pts) (l .c))
     (let z : l .k ≡ a .m = omega (arith, l .inv .1, c .loop-test .left) in z)
     (l .inv .0)
 
@@ -87,9 +87,8 @@ chain-all-spec =
     Inv-loop
     μ-loop
     loop-holds
-    mul-s
-    mul-s-2
-    slice-read-s
+    mul-edge-at
+    edge-at-requires
     start-at-requires
     add-k
     loop-less

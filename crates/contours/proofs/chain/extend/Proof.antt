@@ -3,7 +3,8 @@ use mathlib.Core.Path.{_≡_, refl, sym, ap, _∙_}
 use mathlib.Core.Bool.{true, false}
 use lib.Ieee.{Float, lt}
 use borrow.Author.Needs.{needs}
-use Rattle.contours.specs.Chain.{tight, near, keptOf, putKept}
+use Rattle.contours.specs.Chain.{extended, putKept}
+use Rattle.contours.specs.Curve.{tight, near}
 use Rattle.contours.proofs.chain.extend.Statement.{statement}
 use Rattle.contours.proofs.chain.extend.Tie as tie
 
@@ -11,7 +12,7 @@ distance-requires : tie.Need-distance-requires
 distance-requires c κs = search needs
 
 returns : tie.Need-returns
-unfolding keptOf putKept
+unfolding extended putKept
 returns c =
     let s = c .before .before .before .before .args in
     let e : near (s .p) (s .t .last) ≡ true = ap (λ (d : Float). lt d tight) (sym (c .before .distance .ensures)) ∙ c .if1 .taken in
@@ -30,7 +31,7 @@ same-length : tie.Need-same-length
 same-length c = search needs
 
 returns-2 : tie.Need-returns-2
-unfolding keptOf putKept
+unfolding extended putKept
 returns-2 c =
     let s = c .before .before .before .before .before .before .before .before .args in
     let e : near (s .p) (s .t .last) ≡ false = ap (λ (d : Float). lt d tight) (sym (c .before .before .before .before .before .distance .ensures)) ∙ c .before .before .before .before .if1 .left in

@@ -1,4 +1,5 @@
 -- `contours::edge::crossing` meets its contract. Assumes nothing.
+use mathlib.Core.Path.{_∙_}
 use Rattle.contours.proofs.EdgeLaws.{cell-within, few-columns, crossing-is}
 use borrow.Author.Needs.{needs}
 use Rattle.contours.proofs.edge.crossing.Statement.{statement}
@@ -25,8 +26,11 @@ shared-slice-read-f32-to-f64-with-nan c = let p = c .before .before .before .bef
 f32-to-f64-with-nan-requires : tie.Need-f32-to-f64-with-nan-requires
 f32-to-f64-with-nan-requires c κs = search needs
 
-far-requires : tie.Need-far-requires
-far-requires c κs = search needs
+far-cell-requires : tie.Need-far-cell-requires
+far-cell-requires c κs = search needs
+
+index-of-requires-2 : tie.Need-index-of-requires-2
+index-of-requires-2 c κs = search needs
 
 mul-f32-to-f64-with-nan-2 : tie.Need-mul-f32-to-f64-with-nan-2
 mul-f32-to-f64-with-nan-2 c = search needs
@@ -47,13 +51,13 @@ center-requires : tie.Need-center-requires
 center-requires c κs = search needs
 
 far-center-requires : tie.Need-far-center-requires
-far-center-requires c κs = let p = c .before .before .before .before .before .before .before .before .before .before .before .before .before .pre in few-columns _ _ _ (p .0) (p .1) _ (c .before .before .before .before .before .before .before .before .before .before .before .lower-cell .ensures) _ _ (c .before .before .before .before .before .before .before .before .before .before .column-of .ensures) (c .before .before .before .before .before .before .before .before .before .row-of .ensures)
+far-center-requires c κs = let p = c .before .before .before .before .before .before .before .before .before .before .before .before .before .before .pre in few-columns _ _ _ (p .0) (p .1) _ (c .before .before .before .before .before .before .before .before .before .before .before .before .lower-cell .ensures) _ _ (c .before .before .before .before .before .before .before .before .before .before .before .column-of .ensures) (c .before .before .before .before .before .before .before .before .before .before .row-of .ensures)
 
 lerp-requires : tie.Need-lerp-requires
 lerp-requires c κs = search needs
 
 returns : tie.Need-returns
-returns c = crossing-is _ _ _ _ _ _ _ _ _ _ _ _ _ _ _ _ (c .before .before .before .before .before .before .before .before .before .before .before .before .before .lower-cell .ensures) (c .before .before .before .before .before .before .before .before .before .before .before .before .column-of .ensures) (c .before .before .before .before .before .before .before .before .before .before .before .row-of .ensures) (c .before .before .before .before .before .before .before .before .before .before .index-of .ensures) (c .before .before .before .before .before .before .before .before .f32-to-f64-with-nan .ensures) (c .before .before .before .before .before .before .before .far .ensures) (c .before .before .before .before .before .f32-to-f64-with-nan2 .ensures) (c .before .before .before .before .f32-to-f64-with-nan3 .ensures) (c .before .before .before .along .ensures) (c .before .before .center .ensures) (c .before .far-center .ensures) (c .lerp .ensures)
+returns c = crossing-is _ _ _ _ _ _ _ _ _ _ _ _ _ _ _ _ (c .before .before .before .before .before .before .before .before .before .before .before .before .before .before .lower-cell .ensures) (c .before .before .before .before .before .before .before .before .before .before .before .before .before .column-of .ensures) (c .before .before .before .before .before .before .before .before .before .before .before .before .row-of .ensures) (c .before .before .before .before .before .before .before .before .before .before .before .index-of .ensures) (c .before .before .before .before .before .before .before .before .before .f32-to-f64-with-nan .ensures) (c .before .before .before .before .before .before .before .index-of2 .ensures ∙ c .before .before .before .before .before .before .before .before .far-cell .ensures) (c .before .before .before .before .before .f32-to-f64-with-nan2 .ensures) (c .before .before .before .before .f32-to-f64-with-nan3 .ensures) (c .before .before .before .along .ensures) (c .before .before .center .ensures) (c .before .far-center .ensures) (c .lerp .ensures)
 
 pub crossing-spec : {M : Type 1} → statement M
 crossing-spec =
@@ -66,7 +70,8 @@ crossing-spec =
     mul-f32-to-f64-with-nan
     shared-slice-read-f32-to-f64-with-nan
     f32-to-f64-with-nan-requires
-    far-requires
+    far-cell-requires
+    index-of-requires-2
     mul-f32-to-f64-with-nan-2
     shared-slice-read-f32-to-f64-with-nan-2
     f32-to-f64-with-nan-requires-2

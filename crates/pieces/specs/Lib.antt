@@ -1,0 +1,2 @@
+-- What the contracts of `pieces` cite.
+pub mod Piece

@@ -1,0 +1,2 @@
+// The pieces of a contour in lent slices: what is traced, smoothed and cut.
+pub mod row;

@@ -1,0 +1,2 @@
+-- What the contracts of `smoothing` cite.
+pub mod Smooth

@@ -1,0 +1,2 @@
+// Smoothing of traced curves (`smooth` of adaptive.rs).
+pub mod smooth;
