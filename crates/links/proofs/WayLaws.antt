@@ -28,7 +28,8 @@ use Rattle.links.specs.declared.link.Route.the-variants.{Along}
 use Rattle.links.specs.Lattice.{latticeOf, nodes, centreOf, Laid}
 use Rattle.links.specs.Search.{noNode, seekOf}
 use Rattle.links.specs.Straight.{linkClear}
-use Rattle.links.specs.Path.{nodeNo, backOf, nodesOf, farthestOf, Way, lost, way, Chained, onward, shortenFrom, pointIn, shortenOf, pathIn}
+use Rattle.links.specs.Node.{nodeNo}
+use Rattle.links.specs.Path.{backOf, nodesOf, farthestOf, Way, lost, way, Chained, onward, shortenFrom, pointIn, shortenOf, pathIn}
 use Rattle.links.specs.Link.{Linked, linked, aroundOf, betweenOf, linkPath, linkedIn}
 use Rattle.links.proofs.LatticeLaws.{laid, nodes-few, nodes-pos}
 use Rattle.links.proofs.LinkLaws.{lattice-grid}

@@ -5,7 +5,7 @@ ghost use lib.ListN.{length};
 ghost use Rattle.loops.specs.Frame.{Only};
 ghost use Rattle.distance.specs.Nearest.{squaresOf};
 ghost use Rattle.raster.specs.Grid.{Over};
-ghost use Rattle.setup.specs.Layout.{costFrom, pathEnd, pathFrom};
+ghost use Rattle.setup.specs.Layout.{costFrom, pathEnd, pathFrom, segmentsFrom};
 ghost use Rattle.setup.specs.Place.{cellsOf};
 ghost use Rattle.links.specs.Lattice.{nodes, Laid};
 ghost use Rattle.links.specs.Search.{seekOf, cells, Befores, outcomeIn};
@@ -42,10 +42,10 @@ fn search(l: Lattice, map: &[u8], allowed: &[u8], u: &mut [u32], costs: &mut [f6
     requires { ⌜ Laid l ⌝ }
     requires { ⌜ Over (l .grid) (length (now map)) ⌝ }
     requires { ⌜ Over (l .grid) (length (now allowed)) ⌝ }
-    requires { ⌜ 15 * cells l ≤ length (now u) ⌝ }
+    requires { ⌜ segmentsFrom (cells l) ≤ length (now u) ⌝ }
     requires { ⌜ 10 * cells l ≤ length (now costs) ⌝ }
     ensures { λ r. ⌜ outcomeIn l r (now (u .exit)) ≡ seekOf l (now (allowed .entry)) (squaresOf 1 (now (map .entry)) (l .grid .nx) (l .grid .ny)) ⌝ }
-    ensures { λ _. ⌜ Only 0 (15 * cells l) (now (u .entry)) (now (u .exit)) ⌝ }
+    ensures { λ _. ⌜ Only 0 (segmentsFrom (cells l)) (now (u .entry)) (now (u .exit)) ⌝ }
     ensures { λ _. ⌜ length (now (costs .exit)) ≡ length (now (costs .entry)) ⌝ }
 {
     let end = layout::before(l.grid.ny * l.grid.nx);
@@ -69,7 +69,7 @@ fn trace(
     requires { ⌜ Fitted s (now vs) (now lens) (now map) (now w) ⌝ }
     requires { ⌜ Laid l ⌝ }
     requires { ⌜ l .grid ≡ s .grid ⌝ }
-    requires { ⌜ 15 * cells l ≤ length (now u) ⌝ }
+    requires { ⌜ segmentsFrom (cells l) ≤ length (now u) ⌝ }
     requires { ⌜ Befores (nodes l) (beforeIn l (now u)) ⌝ }
     ensures { λ r. ⌜ shortIn s r (now (w .exit)) ≡ shortenOf (clearIn s (now (vs .entry)) (now (lens .entry)) (now (map .entry)) (now (w .entry))) (nodesOf l (beforeIn l (now (u .entry))) to) from ⌝ }
     ensures { λ _. ⌜ Only (pathFrom (cellsOf s)) (pathEnd (cellsOf s)) (now (w .entry)) (now (w .exit)) ⌝ }
@@ -101,9 +101,9 @@ fn around(
     requires { ⌜ Laid l ⌝ }
     requires { ⌜ l .grid ≡ s .grid ⌝ }
     requires { ⌜ Over (s .grid) (length (now allowed)) ⌝ }
-    requires { ⌜ 15 * cellsOf s ≤ length (now u) ⌝ }
+    requires { ⌜ segmentsFrom (cellsOf s) ≤ length (now u) ⌝ }
     ensures { λ r. ⌜ linkedIn s r (now (w .exit)) ≡ aroundOf s (wallIn s (now (w .entry))) (now (vs .entry)) (now (lens .entry)) (now (map .entry)) (now (allowed .entry)) from to l ⌝ }
-    ensures { λ _. ⌜ Only 0 (15 * cellsOf s) (now (u .entry)) (now (u .exit)) ⌝ }
+    ensures { λ _. ⌜ Only 0 (segmentsFrom (cellsOf s)) (now (u .entry)) (now (u .exit)) ⌝ }
     ensures { λ _. ⌜ Only (costFrom (cellsOf s)) (pathEnd (cellsOf s)) (now (w .entry)) (now (w .exit)) ⌝ }
 {
     let n = s.grid.ny * s.grid.nx;
@@ -136,9 +136,9 @@ pub fn link_path(
 ) -> Route
     requires { ⌜ Fitted s (now vs) (now lens) (now map) (now w) ⌝ }
     requires { ⌜ Over (s .grid) (length (now allowed)) ⌝ }
-    requires { ⌜ 15 * cellsOf s ≤ length (now u) ⌝ }
+    requires { ⌜ segmentsFrom (cellsOf s) ≤ length (now u) ⌝ }
     ensures { λ r. ⌜ linkedIn s r (now (w .exit)) ≡ linkPath s (wallIn s (now (w .entry))) (now (vs .entry)) (now (lens .entry)) (now (map .entry)) (now (allowed .entry)) from to ⌝ }
-    ensures { λ _. ⌜ Only 0 (15 * cellsOf s) (now (u .entry)) (now (u .exit)) ⌝ }
+    ensures { λ _. ⌜ Only 0 (segmentsFrom (cellsOf s)) (now (u .entry)) (now (u .exit)) ⌝ }
     ensures { λ _. ⌜ Only (costFrom (cellsOf s)) (pathEnd (cellsOf s)) (now (w .entry)) (now (w .exit)) ⌝ }
 {
     if super::path::clear(s, vs, lens, map, w, from, to) {
