@@ -16,7 +16,8 @@ use Rattle.geom.specs.declared.vec2.Vec2.{Vec2}
 use Rattle.links.specs.declared.lattice.Lattice.{Lattice}
 use Rattle.links.specs.Lattice.{nodes, centreOf, Laid}
 use Rattle.links.specs.Search.{noNode, seekOf, Befores}
-use Rattle.links.specs.Path.{nodeNo, backOf}
+use Rattle.links.specs.Node.{nodeNo}
+use Rattle.links.specs.Path.{backOf}
 use Rattle.links.proofs.SeekLaws.{sound-seek}
 
 ones-all : (n : ℕ) → ones (replicate n 1) ≡ n

@@ -12,7 +12,7 @@ use Rattle.links.specs.Heap.{beforeOf, insert, one, count, countTo, Sort
 use Rattle.links.specs.Sift.{Risen, Sunk}
 use Rattle.links.proofs.OrderLaws.{one-entry}
 use Rattle.links.proofs.OpenLaws.{unfit, fit-one, fit-not, count-insert, count-all, sorted-insert, sorted-one, sorted-rest, first-least, first-fails, to-none, to-fails, to-all}
-use Rattle.links.proofs.SiftLaws.{stores, kept-more, rising-end, rising-all, sinking-end, sinking-all, root-least}
+use Rattle.links.proofs.SiftLaws.{stores, kept-more, rising-end, rising-all, sinking-end, sinking-all, root-least, written}
 
 -- ---- the empty heap, and how many a heap holds
 
@@ -54,9 +54,9 @@ holds-some ests nodes n h o = record { sorted = listed-sorted (entryAt ests node
 -- ---- one more, and one less
 
 module _ (ests : List Float) (nodes : List ℕ) where
-  pub pushed : (n : ℕ) (e : Entry) (ests′ : List Float) (nodes′ : List ℕ) (k : ℕ)
+  pushed-in : (n : ℕ) (e : Entry) (ests′ : List Float) (nodes′ : List ℕ) (k : ℕ)
       → Lent ests nodes (n + 1) → Risen ests nodes n e ests′ nodes′ k → Pushed ests nodes n e (set ests′ k (e .est)) (set nodes′ k (e .node .0))
-  pushed n e ests′ nodes′ k i r =
+  pushed-in n e ests′ nodes′ k i r =
       let h = r .rising .high in
       let ks = kept-more ests nodes ests′ nodes′ k (e .est) (e .node .0) (r .kept) in
       let w = stores ests′ nodes′ k e (omega (arith, r .kept .ests-long, i .in-ests)) (omega (arith, r .kept .nodes-long, i .in-nodes)) in
@@ -69,6 +69,10 @@ module _ (ests : List Float) (nodes : List ℕ) where
           same = λ p. omega (arith, rising-all (entryAt ests nodes) n e (entryAt ests′ nodes′) _ k (r .rising) w p, H .same p, count-insert p e l);
         };
       }
+
+  pub pushed : (n : ℕ) (e : Entry) (ests′ : List Float) (nodes′ : List ℕ) (k : ℕ) → Lent ests nodes (n + 1) → Risen ests nodes n e ests′ nodes′ k
+      → (ests″ : List Float) (nodes″ : List ℕ) → (ests″ ≡ set ests′ k (e .est)) × (nodes″ ≡ set nodes′ k (e .node .0)) → Pushed ests nodes n e ests″ nodes″
+  pushed n e ests′ nodes′ k i r ests″ nodes″ w = written (Pushed ests nodes n e) ests′ nodes′ k e ests″ nodes″ w (pushed-in n e ests′ nodes′ k i r)
 
   -- where every estimate of the slice is an f64, so is every one of the list
   fit : ((i : ℕ) → T (fits binary64 (getD ests i nan))) → (n : ℕ) (l : List Entry) → Holds l ests nodes n → count unfit l ≡ 0
@@ -87,10 +91,10 @@ module _ (ests : List Float) (nodes : List ℕ) where
       (to-fails (λ (a : Entry). beforeOf a e) f n 0 (H .same _ ∙ first-least e l (H .sorted)) h)
       (first-fails (λ (a : Entry). beforeOf a (f 0)) e l (sym (H .same _) ∙ to-none (λ (a : Entry). beforeOf a (f 0)) f n (λ i a. root-least f n (H .ordered) i i (omega arith) a)))
 
-  pub popped : (n : ℕ) (e : Entry) (ests′ : List Float) (nodes′ : List ℕ) (k : ℕ) → ((i : ℕ) → T (fits binary64 (getD ests i nan)))
+  popped-in : (n : ℕ) (e : Entry) (ests′ : List Float) (nodes′ : List ℕ) (k : ℕ) → ((i : ℕ) → T (fits binary64 (getD ests i nan)))
       → 0 < n → Lent ests nodes n → Sunk ests nodes (n - 1) e ests′ nodes′ k → Popped ests nodes n (entryAt ests nodes 0) (set ests′ k (e .est)) (set nodes′ k (e .node .0))
   unfolding count
-  popped n e ests′ nodes′ k g h o r =
+  popped-in n e ests′ nodes′ k g h o r =
       let hk = r .sinking .high in
       let ks = kept-more ests nodes ests′ nodes′ k (e .est) (e .node .0) (r .kept) in
       let w = stores ests′ nodes′ k e (omega (arith, r .kept .ests-long, o .in-ests)) (omega (arith, r .kept .nodes-long, o .in-nodes)) in
@@ -106,6 +110,12 @@ module _ (ests : List Float) (nodes : List ℕ) where
               omega (arith, sinking-all (entryAt ests nodes) (n - 1) e (entryAt ests′ nodes′) _ k (r .sinking) w p, ap (countTo p (entryAt ests nodes)) z, H .same p, ap (one p) (taken n g h a l H));
         };
       }
+
+  pub popped : (n : ℕ) (e : Entry) (ests′ : List Float) (nodes′ : List ℕ) (k : ℕ) → ((i : ℕ) → T (fits binary64 (getD ests i nan)))
+      → 0 < n → Lent ests nodes n → Sunk ests nodes (n - 1) e ests′ nodes′ k → (ests″ : List Float) (nodes″ : List ℕ)
+      → (ests″ ≡ set ests′ k (e .est)) × (nodes″ ≡ set nodes′ k (e .node .0)) → (a : Entry) → a ≡ entryAt ests nodes 0 → Popped ests nodes n a ests″ nodes″
+  popped n e ests′ nodes′ k g h o r ests″ nodes″ w a A =
+      subst (λ (x : Entry). Popped ests nodes n x ests″ nodes″) (sym A) (written (Popped ests nodes n (entryAt ests nodes 0)) ests′ nodes′ k e ests″ nodes″ w (popped-in n e ests′ nodes′ k g h o r))
 
 -- ---- the same of the list that a heap is
 

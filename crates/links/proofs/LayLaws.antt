@@ -1,5 +1,5 @@
 -- The path laid from its end on: what is laid, and what the walk back still adds, is the whole path. Assumes nothing.
-use mathlib.Core.Path.{_≡_, refl, sym, ap, _∙_}
+use mathlib.Core.Path.{_≡_, refl, sym, ap, _∙_, subst}
 use mathlib.Core.List.{List, [], _∷_, _++_}
 use Prim.Native.Nat.{ℕ, zero, suc, _+_, _-_, _*_, _≤_, _<_}
 use native.Mathlib.Omega.{arith}
@@ -13,7 +13,9 @@ use Rattle.geom.proofs.PointLaws.{put-length, put-here, put-there, points-same}
 use Rattle.links.specs.declared.lattice.Lattice.{Lattice}
 use Rattle.links.specs.Lattice.{nodes, centreOf, Laid}
 use Rattle.links.specs.Search.{noNode, Befores}
-use Rattle.links.specs.Path.{nodeNo, backOf, nodesOf}
+use Rattle.links.specs.declared.NodeNo.{NodeNo}
+use Rattle.links.specs.Node.{nodeNo, nodeIn}
+use Rattle.links.specs.Path.{backOf, nodesOf}
 
 -- ---- points, the first one apart
 
@@ -63,23 +65,34 @@ allFrom l before k ps v = backOf l before k v (points k (nodes l - k) ps)
 
 module _ (l : Lattice) (L : Laid l) (before : List ℕ) (K : Befores (nodes l) before) where
   module _ (to : Vec2) (ps ps′ : List Float) (h : 2 * nodes l ≤ length ps) (n : ℕ) (N : n ≡ nodes l) (P : ps′ ≡ putPoint (n - 1) to ps) where
-    pub laying-none : Laying l before (allFrom l before (n - 1) ps′ (getD before (l .goal .0) 0)) ps′ (n - 1) (getD before (l .goal .0) 0)
-    laying-none = record {
+    from-goal : Laying l before (allFrom l before (n - 1) ps′ (getD before (l .goal .0) 0)) ps′ (n - 1) (getD before (l .goal .0) 0)
+    from-goal = record {
       low = omega (arith, L .last);
       node = K .known (l .goal .0) (L .last);
       room = omega (arith, ap length P, put-length (n - 1) to ps);
       rest = refl;
     }
 
-    pub laying-all : allFrom l before (n - 1) ps′ (getD before (l .goal .0) 0) ≡ nodesOf l before to
+    all-from-goal : allFrom l before (n - 1) ps′ (getD before (l .goal .0) 0) ≡ nodesOf l before to
     unfolding nodesOf points
-    laying-all =
+    all-from-goal =
         let v = getD before (l .goal .0) 0 in
         let g = L .last in
         let p : points (n - 1) (suc 0) (putPoint (n - 1) to ps) ≡ to ∷ points (n - 1 + 1) 0 ps = points-front (n - 1) 0 to ps (omega arith) in
         ap (λ (c : ℕ). backOf l before (n - 1) v (points (n - 1) c ps′)) (let b : nodes l - (n - 1) ≡ suc 0 = omega arith in b)
         ∙ ap (backOf l before (n - 1) v) (ap (points (n - 1) (suc 0)) P ∙ p)
         ∙ ap (λ (c : ℕ). backOf l before c v (to ∷ [])) (let a : n - 1 ≡ nodes l - 1 = omega arith in a)
+
+    -- v is the node before the goal
+    module _ (i : ℕ) (G : i ≡ l .goal .0) (v : NodeNo) (U : v ≡ nodeIn before i) where
+      goal-is : v .0 ≡ getD before (l .goal .0) 0
+      goal-is = ap (λ (x : NodeNo). x .0) U ∙ ap (λ (k : ℕ). getD before k 0) G
+
+      pub laying-none : Laying l before (allFrom l before (n - 1) ps′ (v .0)) ps′ (n - 1) (v .0)
+      laying-none = subst (λ (x : ℕ). Laying l before (allFrom l before (n - 1) ps′ x) ps′ (n - 1) x) (sym goal-is) from-goal
+
+      pub laying-all : allFrom l before (n - 1) ps′ (v .0) ≡ nodesOf l before to
+      laying-all = ap (allFrom l before (n - 1) ps′) goal-is ∙ all-from-goal
 
   module _ (all : List Vec2) (ps : List Float) (k v : ℕ) (I : Laying l before all ps k v) where
     pub laying-stop : v ≡ noNode → points k (nodes l - k) ps ≡ all
@@ -92,9 +105,8 @@ module _ (l : Lattice) (L : Laid l) (before : List ℕ) (K : Befores (nodes l) b
     unfolding backOf
     laying-end h = sym (ap (λ (n : ℕ). backOf l before n v (points k (nodes l - k) ps)) (let z : k ≡ 0 = omega arith in z)) ∙ I .rest
 
-    pub laying-more : 0 < k → (v ≡ noNode → ⊥) → (v ≡ l .start .0 → ⊥) → (p : Vec2) → p ≡ centreOf l (nodeNo v) → (ps′ : List Float) → ps′ ≡ putPoint (k - 1) p ps
-        → Laying l before all ps′ (k - 1) (getD before v 0)
-    laying-more z d e p P ps′ P′ =
+    back-one : 0 < k → (v ≡ noNode → ⊥) → (v ≡ l .start .0 → ⊥) → (p : Vec2) → p ≡ centreOf l (nodeNo v) → (ps′ : List Float) → ps′ ≡ putPoint (k - 1) p ps → Laying l before all ps′ (k - 1) (getD before v 0)
+    back-one z d e p P ps′ P′ =
         let low = I .low in
         let room = I .room in
         let q : points (k - 1) (suc (nodes l - k)) (putPoint (k - 1) p ps) ≡ p ∷ points (k - 1 + 1) (nodes l - k) ps = points-front (k - 1) (nodes l - k) p ps (omega arith) in
@@ -107,3 +119,9 @@ module _ (l : Lattice) (L : Laid l) (before : List ℕ) (K : Befores (nodes l) b
               ∙ sym (back-more l before v (points k (nodes l - k) ps) k z d e)
               ∙ I .rest;
         }
+
+    -- u is the node before v
+    pub laying-more : 0 < k → (v ≡ noNode → ⊥) → (v ≡ l .start .0 → ⊥) → (p : Vec2) → p ≡ centreOf l (nodeNo v) → (ps′ : List Float) → ps′ ≡ putPoint (k - 1) p ps
+        → (i : ℕ) → i ≡ v → (u : NodeNo) → u ≡ nodeIn before i → Laying l before all ps′ (k - 1) (u .0)
+    laying-more z d e p P ps′ P′ i H u U =
+        subst (Laying l before all ps′ (k - 1)) (sym (ap (λ (x : NodeNo). x .0) U ∙ ap (λ (j : ℕ). getD before j 0) H)) (back-one z d e p P ps′ P′)

@@ -152,15 +152,24 @@ module _ (n m : ℕ) (words : List ℕ) (costs : List Float) (R : Ready n m word
         st-eq (take-set-lt n costs k y K) (take-set-lt n words k x K)
         (ap (λ (l : List Float). listed (entryAt l (within n (10 * n) (set words k x))) m) costs-rest ∙ ap (λ (l : List ℕ). listed (entryAt (within n (10 * n) costs) l) m) words-rest)
 
-  pub improve-is : (v : NodeNo) (cand : Float) (e : Entry) → e .node .0 < n → (w′ : List ℕ) (c′ : List Float)
-      → searchIn n (m + 1) w′ c′ ≡ opened e (searchIn n m (set words (e .node .0) (v .0)) (set costs (e .node .0) cand))
-      → searchIn n (m + 1) w′ c′ ≡ improved v cand e (searchIn n m words costs)
-  unfolding opened improved searchIn
-  improve-is v cand e k w′ c′ d = d ∙ ap (opened e) (set-is (e .node .0) (v .0) cand k)
+  -- words′ has the node before, at e's node
+  module _ (v : NodeNo) (cand : Float) (e : Entry) (K : e .node .0 < n) (k : ℕ) (E : k ≡ e .node .0) (words′ : List ℕ) (W : words′ ≡ set words k (v .0)) where
+    words-is : words′ ≡ set words (e .node .0) (v .0)
+    words-is = W ∙ ap (λ (i : ℕ). set words i (v .0)) E
 
--- lengths as they were before the sets
-pub grown-set : (n r k x : ℕ) (y : Float) (words : List ℕ) (costs : List Float) (w′ : List ℕ) (c′ : List Float) → Grown n r (set words k x) (set costs k y) w′ c′ → Grown n r words costs w′ c′
-grown-set n r k x y words costs w′ c′ g = record { words-long = g .words-long ∙ length-set words k x; costs-long = g .costs-long ∙ length-set costs k y; ready = g .ready }
+    costs-is : set costs k cand ≡ set costs (e .node .0) cand
+    costs-is = ap (λ (i : ℕ). set costs i cand) E
+
+    pub improve-ready : Ready n m words′ (set costs k cand)
+    improve-ready = subst (λ (w : List ℕ). Ready n m w (set costs k cand)) (sym words-is) (subst (Ready n m (set words (e .node .0) (v .0))) (sym costs-is) (set-ready (e .node .0) (v .0) cand K))
+
+    pub improve-is : (w′ : List ℕ) (c′ : List Float) → searchIn n (m + 1) w′ c′ ≡ opened e (searchIn n m words′ (set costs k cand)) → Grown n (m + 1) words′ (set costs k cand) w′ c′
+        → (searchIn n (m + 1) w′ c′ ≡ improved v cand e (searchIn n m words costs)) × Grown n (m + 1) words costs w′ c′
+    unfolding opened improved searchIn
+    improve-is w′ c′ d g = (
+      d ∙ (λ i. opened e (searchIn n m (words-is i) (costs-is i))) ∙ ap (opened e) (set-is (e .node .0) (v .0) cand K),
+      record { words-long = g .words-long ∙ ap length W ∙ length-set words k (v .0); costs-long = g .costs-long ∙ length-set costs k cand; ready = g .ready },
+    )
 
 pub grown-none : (n m : ℕ) (words : List ℕ) (costs : List Float) → Ready n m words costs → Grown n m words costs words costs
 grown-none n m words costs R = record { words-long = refl; costs-long = refl; ready = R }
@@ -168,21 +177,21 @@ grown-none n m words costs R = record { words-long = refl; costs-long = refl; re
 -- ---- a way offered
 
 module _ (l : Lattice) (v t : NodeNo) (m : ℕ) (words : List ℕ) (costs : List Float) (A : IsNode l v) (B : IsNode l t)
-    (p q : Vec2) (P : p ≡ centreOf l v) (Q : q ≡ centreOf l t) (d : Float) (D : d ≡ distanceOf p q) where
-  cand-is : add binary64 (getD costs (v .0) nan) d ≡ candidate l v t (searchIn (nodes l) m words costs .cost)
+    (p q : Vec2) (P : p ≡ centreOf l v) (Q : q ≡ centreOf l t) (d : Float) (D : d ≡ distanceOf p q) (i j : ℕ) (I : i ≡ v .0) (J : j ≡ t .0) where
+  cand-is : add binary64 (getD costs i nan) d ≡ candidate l v t (searchIn (nodes l) m words costs .cost)
   unfolding candidate searchIn
-  cand-is = rw (D, P, Q, getD-take (nodes l) costs (v .0) nan A)
+  cand-is = rw (I, D, P, Q, getD-take (nodes l) costs (v .0) nan A)
 
-  cost-is : getD costs (t .0) nan ≡ getD (searchIn (nodes l) m words costs .cost) (t .0) nan
+  cost-is : getD costs j nan ≡ getD (searchIn (nodes l) m words costs .cost) (t .0) nan
   unfolding searchIn
-  cost-is = sym (getD-take (nodes l) costs (t .0) nan B)
+  cost-is = ap (λ (k : ℕ). getD costs k nan) J ∙ sym (getD-take (nodes l) costs (t .0) nan B)
 
-  pub offer-not : lt (add binary64 (getD costs (v .0) nan) d) (getD costs (t .0) nan) ≡ false → searchIn (nodes l) m words costs ≡ offerOf l v t (searchIn (nodes l) m words costs)
+  pub offer-not : lt (add binary64 (getD costs i nan) d) (getD costs j nan) ≡ false → searchIn (nodes l) m words costs ≡ offerOf l v t (searchIn (nodes l) m words costs)
   unfolding offerOf
   offer-not e = rw (← cand-is, ← cost-is, e)
 
-  pub offer-better : lt (add binary64 (getD costs (v .0) nan) d) (getD costs (t .0) nan) ≡ true → (f : Float) → f ≡ distanceOf q (l .end) → (s : Search)
-      → s ≡ improved v (add binary64 (getD costs (v .0) nan) d) (entry (add binary64 (add binary64 (getD costs (v .0) nan) d) f) t) (searchIn (nodes l) m words costs)
+  pub offer-better : lt (add binary64 (getD costs i nan) d) (getD costs j nan) ≡ true → (f : Float) → f ≡ distanceOf q (l .end) → (s : Search)
+      → s ≡ improved v (add binary64 (getD costs i nan) d) (entry (add binary64 (add binary64 (getD costs i nan) d) f) t) (searchIn (nodes l) m words costs)
       → s ≡ offerOf l v t (searchIn (nodes l) m words costs)
   unfolding offerOf
   offer-better e f F s S = rw (← cand-is, ← cost-is, e, ← Q, ← F) S
@@ -192,12 +201,12 @@ module _ (l : Lattice) (v t : NodeNo) (m : ℕ) (words : List ℕ) (costs : List
     pub offer-asks : Laid l → Ready (nodes l) m words costs → m < 9 * nodes l → Ready n m words costs × ((m < 9 * n) × ((n ≤ 1048576) × (t .0 < n)))
     offer-asks L R h = subst (λ (k : ℕ). Ready k m words costs × ((m < 9 * k) × ((k ≤ 1048576) × (t .0 < k)))) (sym N) (R, (h, (nodes-most l L, B)))
 
-    pub offer-gives : lt (add binary64 (getD costs (v .0) nan) d) (getD costs (t .0) nan) ≡ true → (f : Float) → f ≡ distanceOf q (l .end) → (w′ : List ℕ) (c′ : List Float)
-        → searchIn n (m + 1) w′ c′ ≡ improved v (add binary64 (getD costs (v .0) nan) d) (entry (add binary64 (add binary64 (getD costs (v .0) nan) d) f) t) (searchIn n m words costs)
+    pub offer-gives : lt (add binary64 (getD costs i nan) d) (getD costs j nan) ≡ true → (f : Float) → f ≡ distanceOf q (l .end) → (w′ : List ℕ) (c′ : List Float)
+        → searchIn n (m + 1) w′ c′ ≡ improved v (add binary64 (getD costs i nan) d) (entry (add binary64 (add binary64 (getD costs i nan) d) f) t) (searchIn n m words costs)
         → Grown n (m + 1) words costs w′ c′
         → (searchIn (nodes l) (m + 1) w′ c′ ≡ offerOf l v t (searchIn (nodes l) m words costs)) × (Grown (nodes l) (m + 1) words costs w′ c′ × (m + 1 ≤ m + 1))
     offer-gives e f F w′ c′ S G =
-        let x = add binary64 (getD costs (v .0) nan) d in (
+        let x = add binary64 (getD costs i nan) d in (
           offer-better e f F (searchIn (nodes l) (m + 1) w′ c′) (subst (λ (k : ℕ). searchIn k (m + 1) w′ c′ ≡ improved v x (entry (add binary64 x f) t) (searchIn k m words costs)) N S),
           (subst (λ (k : ℕ). Grown k (m + 1) words costs w′ c′) N G, omega arith),
         )

@@ -39,37 +39,37 @@ use Rattle.links.proofs.SearchLaws.{st-eq}
 -- ---- the beginning
 
 module _ (l : Lattice) (L : Laid l) (words : List ℕ) (costs : List Float) (W : 10 * nodes l ≤ length words) (C : 10 * nodes l ≤ length costs)
-    (n : ℕ) (N : n ≡ nodes l) (w : List ℕ) (c : List Float) (R : w ≡ replicate n noNode ++ drop n words) (S : c ≡ replicate n top ++ drop n costs) where
+    (n : ℕ) (N : n ≡ nodes l) (w : List ℕ) (c : List Float) (R : w ≡ replicate n noNode ++ drop n words) (S : c ≡ replicate n top ++ drop n costs) (i : ℕ) (I : i ≡ l .start .0) where
   w-long : length w ≡ length words
   w-long = ap length R ∙ filled-length noNode words n (omega (arith, N, W))
 
   c-long : length c ≡ length costs
   c-long = ap length S ∙ filled-length top costs n (omega (arith, N, C))
 
-  pub start-in : l .start .0 < length c
-  start-in = omega (arith, c-long, C, L .first)
+  pub start-in : i < length c
+  start-in = omega (arith, I, c-long, C, L .first)
 
-  pub begin-asks : Ready n 0 w (set c (l .start .0) f0) × ((0 < 9 * n) × (n ≤ 1048576))
+  pub begin-asks : Ready n 0 w (set c i f0) × ((0 < 9 * n) × (n ≤ 1048576))
   begin-asks = (
     record {
       in-words = omega (arith, w-long, N, W);
-      in-costs = omega (arith, length-set c (l .start .0) f0, c-long, N, C);
+      in-costs = omega (arith, length-set c i f0, c-long, N, C);
       high = omega arith;
       ordered = record { order = λ i a b. absurd (let z : ⊥ = omega arith in z) };
     },
     (omega (arith, N, nodes-pos l L), omega (arith, N, nodes-most l L)),
   )
 
-  pub begin-long : (w′ : List ℕ) (c′ : List Float) → Grown n 1 w (set c (l .start .0) f0) w′ c′ → length c′ ≡ length costs
-  begin-long w′ c′ G = G .costs-long ∙ length-set c (l .start .0) f0 ∙ c-long
+  pub begin-long : (w′ : List ℕ) (c′ : List Float) → Grown n 1 w (set c i f0) w′ c′ → length c′ ≡ length costs
+  begin-long w′ c′ G = G .costs-long ∙ length-set c i f0 ∙ c-long
 
   pub begin-is : (p : Vec2) → p ≡ centreOf l (l .start) → (d : Float) → d ≡ distanceOf p (l .end) → (w′ : List ℕ) (c′ : List Float)
-      → searchIn n 1 w′ c′ ≡ opened (entry d (l .start)) (searchIn n 0 w (set c (l .start .0) f0)) → Grown n 1 w (set c (l .start .0) f0) w′ c′
+      → searchIn n 1 w′ c′ ≡ opened (entry d (l .start)) (searchIn n 0 w (set c i f0)) → Grown n 1 w (set c i f0) w′ c′
       → (searchIn (nodes l) 1 w′ c′ ≡ started l) × Grown (nodes l) 1 words costs w′ c′
   unfolding searchIn opened started listed
   begin-is p P d D w′ c′ e G = (
     subst (λ (k : ℕ). searchIn k 1 w′ c′ ≡ started l) N
-        (e ∙ st-eq (take-set-lt n c (l .start .0) f0 (omega (arith, N, L .first)) ∙ ap (λ (x : List Float). set x (l .start .0) f0) (ap (take n) S ∙ take-at (replicate n top) (drop n costs) n (length-replicate n top) ∙ ap (λ (k : ℕ). replicate k top) N))
+        (e ∙ st-eq (ap (λ (k : ℕ). take n (set c k f0)) I ∙ take-set-lt n c (l .start .0) f0 (omega (arith, N, L .first)) ∙ ap (λ (x : List Float). set x (l .start .0) f0) (ap (take n) S ∙ take-at (replicate n top) (drop n costs) n (length-replicate n top) ∙ ap (λ (k : ℕ). replicate k top) N))
         (ap (take n) R ∙ take-at (replicate n noNode) (drop n words) n (length-replicate n noNode) ∙ ap (λ (k : ℕ). replicate k noNode) N)
         (ap (λ (x : Float). insert (entry x (l .start)) []) (D ∙ ap (λ (q : Vec2). distanceOf q (l .end)) P))),
     subst (λ (k : ℕ). Grown k 1 words costs w′ c′) N (record { words-long = G .words-long ∙ w-long; costs-long = begin-long w′ c′ G; ready = G .ready }),
@@ -345,3 +345,10 @@ module _ (l : Lattice) (L : Laid l) (u : List ℕ) (costs : List Float) (A : 15 
         → (outcomeIn l o u₂ ≡ seekOf l allowed (squaresIn l u)) × (Only (5 * cells l) (15 * cells l) u u₂ × (z ≡ length costs))
     seek-is allowed o u₂ z X Y Z =
         (X ∙ ap (seekOf l allowed) (squares-same l u u₁ A first), (only-more (5 * cells l) (15 * cells l) u part u₁ first u₂ Y, Z ∙ G .costs-long))
+
+-- ---- a filled part that comes back
+
+pub front-filled : {A : Type 0} (v : A) (w : List A) (n : ℕ) → n ≤ length w → (r : List A) → r ≡ replicate (length (take (n - 0) (drop 0 w))) v → putMid 0 (n - 0) w r ≡ replicate n v ++ drop n w
+front-filled v w n h r R =
+    ap (putMid 0 (n - 0) w) (R ∙ ap (λ (k : ℕ). replicate k v) (region-long 0 n w (record { start = omega arith; end = h })))
+    ∙ ap (λ (k : ℕ). replicate k v ++ drop k w) (let z : n - 0 ≡ n = omega arith in z)

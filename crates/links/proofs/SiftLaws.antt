@@ -1,5 +1,5 @@
 -- The hole's way through the heap, a step up or down at a time, and what the heap holds once the entry is put in. Assumes nothing.
-use mathlib.Core.Path.{_≡_, refl, ap, _∙_, subst}
+use mathlib.Core.Path.{_≡_, refl, sym, ap, _∙_, subst}
 use mathlib.Core.Bool.{Bool, true, false}
 use mathlib.Core.List.{List}
 use Prim.Native.Nat.{ℕ, zero, suc, _+_, _*_, _≤_, _<_}
@@ -8,7 +8,7 @@ use lib.ListN.{length, set, length-set}
 use lib.Seq.{getD-set-same, getD-set-other}
 use lib.Ieee.{Float, nan}
 use Rattle.links.specs.declared.heap.Entry.{Entry}
-use Rattle.links.specs.Heap.{beforeOf, one, countTo, parent, Ordered, entryAt, Kept}
+use Rattle.links.specs.Heap.{beforeOf, one, countTo, parent, Ordered, entryAt, SameLong}
 use Rattle.links.specs.Sift.{Rising, Sinking, Lesser}
 use Rattle.links.proofs.OrderLaws.{before-same, before-once, not-before}
 use Rattle.links.proofs.OpenLaws.{which, Put, to-put, to-more}
@@ -22,11 +22,16 @@ stores ests nodes k e h l = record {
 }
 
 module _ (ests : List Float) (nodes : List ℕ) where
-  pub kept-none : Kept ests nodes ests nodes
+  pub kept-none : SameLong ests nodes ests nodes
   kept-none = record { ests-long = refl; nodes-long = refl }
 
-  pub kept-more : (ests′ : List Float) (nodes′ : List ℕ) (k : ℕ) (x : Float) (v : ℕ) → Kept ests nodes ests′ nodes′ → Kept ests nodes (set ests′ k x) (set nodes′ k v)
+  pub kept-more : (ests′ : List Float) (nodes′ : List ℕ) (k : ℕ) (x : Float) (v : ℕ) → SameLong ests nodes ests′ nodes′ → SameLong ests nodes (set ests′ k x) (set nodes′ k v)
   kept-more ests′ nodes′ k x v h = record { ests-long = length-set ests′ k x ∙ h .ests-long; nodes-long = length-set nodes′ k v ∙ h .nodes-long }
+
+-- an entry that was written: what holds after the stores holds then
+pub written : (P : List Float → List ℕ → Type 0) (ests : List Float) (nodes : List ℕ) (k : ℕ) (e : Entry) (ests′ : List Float) (nodes′ : List ℕ)
+    → (ests′ ≡ set ests k (e .est)) × (nodes′ ≡ set nodes k (e .node .0)) → P (set ests k (e .est)) (set nodes k (e .node .0)) → P ests′ nodes′
+written P ests nodes k e ests′ nodes′ w p = subst (λ (x : List Float). P x nodes′) (sym (w .0)) (subst (P (set ests k (e .est))) (sym (w .1)) p)
 
 -- that x does not come before y, said of entries equal to them
 same-no : {x x′ y y′ : Entry} → x′ ≡ x → y′ ≡ y → beforeOf x y ≡ false → beforeOf x′ y′ ≡ false
@@ -76,6 +81,20 @@ module _ (f₀ : ℕ → Entry) (n : ℕ) (e : Entry) where
 
     pub rising-all : Put f g k e → (p : Entry → Bool) → countTo p g (n + 1) ≡ countTo p f₀ n + one p e
     rising-all w p = omega (arith, to-put p f g k e w (n + 1) (omega (arith, r .high)), r .all p)
+
+-- a turn of `rise`: f, read at k's parent, is written at k
+module _ (ests₀ : List Float) (nodes₀ : List ℕ) (n : ℕ) (e : Entry) (ests : List Float) (nodes : List ℕ) (k : ℕ) (s : SameLong ests₀ nodes₀ ests nodes)
+    (r : Rising (entryAt ests₀ nodes₀) (entryAt ests nodes) n e k) (f : Entry) (F : f ≡ entryAt ests nodes (parent k)) (b : Bool) (B : b ≡ beforeOf e f) where
+  pub rise-stop : b ≡ false → beforeOf e (entryAt ests nodes (parent k)) ≡ false
+  rise-stop h = subst (λ (x : Entry). beforeOf e x ≡ false) F (sym B ∙ h)
+
+  pub rise-on : b ≡ true → 0 < k → k < length ests → k < length nodes → (ests′ : List Float) (nodes′ : List ℕ) → (ests′ ≡ set ests k (f .est)) × (nodes′ ≡ set nodes k (f .node .0))
+      → SameLong ests₀ nodes₀ ests′ nodes′ × Rising (entryAt ests₀ nodes₀) (entryAt ests′ nodes′) n e (parent k)
+  rise-on h low i j ests′ nodes′ w =
+      written (λ (x : List Float) (y : List ℕ). SameLong ests₀ nodes₀ x y × Rising (entryAt ests₀ nodes₀) (entryAt x y) n e (parent k)) ests nodes k f ests′ nodes′ w (
+        kept-more ests₀ nodes₀ ests nodes k (f .est) (f .node .0) s,
+        rising-more (entryAt ests₀ nodes₀) n e (entryAt ests nodes) _ k r low (subst (λ (x : Entry). beforeOf e x ≡ true) F (sym B ∙ h)) (subst (Put (entryAt ests nodes) _ k) F (stores ests nodes k f i j)),
+      )
 
 -- ---- down
 
@@ -157,6 +176,20 @@ module _ (f₀ : ℕ → Entry) (n : ℕ) (e : Entry) where
       where
         go : n ≡ 0 → countTo p g n + one p (f₀ 0) ≡ countTo p f₀ (n + 1)
         go d = omega (arith, ap (countTo p g) d, ap (countTo p f₀) d, to-more p f₀ n, ap (λ (x : ℕ). one p (f₀ x)) d)
+
+-- a turn of `sink`: f, read at k's lesser child c, is written at k
+module _ (ests₀ : List Float) (nodes₀ : List ℕ) (n : ℕ) (e : Entry) (ests : List Float) (nodes : List ℕ) (k : ℕ) (s : SameLong ests₀ nodes₀ ests nodes)
+    (r : Sinking (entryAt ests₀ nodes₀) (entryAt ests nodes) n e k) (c : ℕ) (C : Lesser (entryAt ests nodes) n k c) (f : Entry) (F : f ≡ entryAt ests nodes c) (b : Bool) (B : b ≡ beforeOf f e) where
+  pub sink-stop : b ≡ false → (i : ℕ) → 0 < i → i < n → parent i ≡ k → beforeOf (entryAt ests nodes i) e ≡ false
+  sink-stop h = sinking-stop (entryAt ests nodes) n e k c C (subst (λ (x : Entry). beforeOf x e ≡ false) F (sym B ∙ h))
+
+  pub sink-on : b ≡ true → k < length ests → k < length nodes → (ests′ : List Float) (nodes′ : List ℕ) → (ests′ ≡ set ests k (f .est)) × (nodes′ ≡ set nodes k (f .node .0))
+      → SameLong ests₀ nodes₀ ests′ nodes′ × Sinking (entryAt ests₀ nodes₀) (entryAt ests′ nodes′) n e c
+  sink-on h i j ests′ nodes′ w =
+      written (λ (x : List Float) (y : List ℕ). SameLong ests₀ nodes₀ x y × Sinking (entryAt ests₀ nodes₀) (entryAt x y) n e c) ests nodes k f ests′ nodes′ w (
+        kept-more ests₀ nodes₀ ests nodes k (f .est) (f .node .0) s,
+        sinking-more (entryAt ests₀ nodes₀) n e (entryAt ests nodes) _ k r c C (subst (λ (x : Entry). beforeOf x e ≡ true) F (sym B ∙ h)) (subst (Put (entryAt ests nodes) _ k) F (stores ests nodes k f i j)),
+      )
 
 -- none of a heap comes before its root
 pub root-least : (f : ℕ → Entry) (n : ℕ) → Ordered f n → (i j : ℕ) → i ≤ j → i < n → beforeOf (f i) (f 0) ≡ false

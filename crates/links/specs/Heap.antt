@@ -11,6 +11,7 @@ use Rattle.numbers.specs.Order.{totalOf}
 use Rattle.numbers.specs.declared.order.Ordering.{Ordering}
 use Rattle.numbers.specs.declared.order.Ordering.the-variants.{Less, Equal, Greater}
 use Rattle.links.specs.declared.heap.Entry.{Entry}
+use Rattle.links.specs.Node.{nodeIn}
 
 -- by how two estimates compare, and on equal ones by how the nodes do
 unfoldable pub settled : Ordering → Bool → Bool
@@ -47,7 +48,7 @@ pub data Sorted : List Entry → Type 0 where
 -- ---- the list in slices
 
 unfoldable pub entryAt : List Float → List ℕ → ℕ → Entry
-entryAt ests nodes i = record { est = getD ests i nan; node = record { 0 = getD nodes i 0 } }
+entryAt ests nodes i = record { est = getD ests i nan; node = nodeIn nodes i }
 
 abbrev pub parent : ℕ → ℕ
 parent i = (i - 1) / 2
@@ -74,17 +75,17 @@ pub record Holds (l : List Entry) (ests : List Float) (nodes : List ℕ) (n : �
   pub same : (p : Entry → Bool) → countTo p (entryAt ests nodes) n ≡ count p l
 
 -- both slices keep their lengths
-pub record Kept (ests : List Float) (nodes : List ℕ) (ests′ : List Float) (nodes′ : List ℕ) : Type 0 where
+pub record SameLong (ests : List Float) (nodes : List ℕ) (ests′ : List Float) (nodes′ : List ℕ) : Type 0 where
   pub ests-long : length ests′ ≡ length ests
   pub nodes-long : length nodes′ ≡ length nodes
 
 -- what `push` leaves of n entries
 pub record Pushed (ests : List Float) (nodes : List ℕ) (n : ℕ) (e : Entry) (ests′ : List Float) (nodes′ : List ℕ) : Type 0 where
-  pub kept : Kept ests nodes ests′ nodes′
+  pub kept : SameLong ests nodes ests′ nodes′
   pub holds : (l : List Entry) → Holds l ests nodes n → Holds (insert e l) ests′ nodes′ (n + 1)
 
 -- what `pop` leaves of n entries, having taken r
 pub record Popped (ests : List Float) (nodes : List ℕ) (n : ℕ) (r : Entry) (ests′ : List Float) (nodes′ : List ℕ) : Type 0 where
-  pub kept : Kept ests nodes ests′ nodes′
+  pub kept : SameLong ests nodes ests′ nodes′
   pub taken : (e : Entry) (l : List Entry) → Holds (e ∷ l) ests nodes n → r ≡ e
   pub holds : (e : Entry) (l : List Entry) → Holds (e ∷ l) ests nodes n → Holds l ests′ nodes′ (n - 1)

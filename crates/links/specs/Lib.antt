@@ -1,4 +1,5 @@
 -- What the contracts of `links` cite.
+pub mod Node
 pub mod Heap
 pub mod Sift
 pub mod Straight

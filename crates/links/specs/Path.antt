@@ -14,20 +14,17 @@ use Rattle.raster.specs.Contact.{samplesOf, Rim}
 use Rattle.setup.specs.Layout.{pathFrom, rimFrom, crossingsFrom, pathEnd}
 use Rattle.setup.specs.Place.{Walls, cellsOf}
 use Rattle.setup.specs.declared.Setup.{Setup}
-use Rattle.links.specs.declared.NodeNo.{NodeNo}
 use Rattle.links.specs.declared.lattice.Lattice.{Lattice}
 use Rattle.links.specs.declared.path.Seen.{Seen}
 use Rattle.links.specs.declared.path.Seen.the-variants.{Nothing, Point}
-use Rattle.links.specs.declared.path.Kept.{Kept}
-use Rattle.links.specs.declared.path.Kept.the-variants.{Lost, Points}
+use Rattle.links.specs.declared.path.Shortened.{Shortened}
+use Rattle.links.specs.declared.path.Shortened.the-variants.{Blocked, Points}
+use Rattle.links.specs.Node.{nodeNo}
 use Rattle.links.specs.Lattice.{nodes, centreOf}
 use Rattle.links.specs.Search.{noNode}
 use Rattle.links.specs.Straight.{linkClear}
 
 -- ---- the path back
-
-abbrev pub nodeNo : ℕ → NodeNo
-nodeNo v = record { 0 = v }
 
 -- The centres of the nodes from v back to the start, at most n of them, put before ps. The Rust does not count them; a counter of nodes - 1 is never met
 -- (proofs/WalkLaws.antt `path-whole`).
@@ -97,6 +94,6 @@ pub record Fitted (s : Setup) (vs : List Float) (lens m : List ℕ) (w : List Fl
   pub long : 32 * cellsOf s + 4096 ≤ length w
 
 -- the way that was kept, in the path's part
-abbrev pub keptIn : Setup → Kept → List Float → Way
-keptIn s Lost w = lost
-keptIn s (Points n) w = way (points 0 n (pathIn s w))
+abbrev pub shortIn : Setup → Shortened → List Float → Way
+shortIn s Blocked w = lost
+shortIn s (Points n) w = way (points 0 n (pathIn s w))

@@ -5,7 +5,7 @@ use mathlib.Core.List.{List}
 use Prim.Native.Nat.{ℕ, _+_, _-_, _≤_, _<_, max}
 use lib.Ieee.{Float}
 use Rattle.links.specs.declared.heap.Entry.{Entry}
-use Rattle.links.specs.Heap.{beforeOf, one, countTo, parent, Ordered, entryAt, Kept}
+use Rattle.links.specs.Heap.{beforeOf, one, countTo, parent, Ordered, entryAt, SameLong}
 
 -- The hole has come up from n to k, and e goes into it or higher: what stood at k is counted twice, and but for place n, while the hole is there, all are in order.
 pub record Rising (f₀ f : ℕ → Entry) (n : ℕ) (e : Entry) (k : ℕ) : Type 0 where
@@ -15,7 +15,7 @@ pub record Rising (f₀ f : ℕ → Entry) (n : ℕ) (e : Entry) (k : ℕ) : Typ
   pub under : (i : ℕ) → 0 < i → i ≤ n → parent i ≡ k → beforeOf (f i) e ≡ false
 
 pub record Risen (ests : List Float) (nodes : List ℕ) (n : ℕ) (e : Entry) (ests′ : List Float) (nodes′ : List ℕ) (k : ℕ) : Type 0 where
-  pub kept : Kept ests nodes ests′ nodes′
+  pub kept : SameLong ests nodes ests′ nodes′
   pub rising : Rising (entryAt ests nodes) (entryAt ests′ nodes′) n e k
   pub stops : 0 < k → beforeOf e (entryAt ests′ nodes′ (parent k)) ≡ false
 
@@ -34,6 +34,6 @@ pub record Lesser (f : ℕ → Entry) (n k c : ℕ) : Type 0 where
   pub least : (i : ℕ) → 0 < i → i < n → parent i ≡ k → beforeOf (f i) (f c) ≡ false
 
 pub record Sunk (ests : List Float) (nodes : List ℕ) (n : ℕ) (e : Entry) (ests′ : List Float) (nodes′ : List ℕ) (k : ℕ) : Type 0 where
-  pub kept : Kept ests nodes ests′ nodes′
+  pub kept : SameLong ests nodes ests′ nodes′
   pub sinking : Sinking (entryAt ests nodes) (entryAt ests′ nodes′) n e k
   pub stops : (i : ℕ) → 0 < i → i < n → parent i ≡ k → beforeOf (entryAt ests′ nodes′ i) e ≡ false

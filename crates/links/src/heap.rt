@@ -2,9 +2,13 @@
 // least estimate comes first and, on equal estimates, the lower node.
 ghost use mathlib.Core.Path.{_≡_};
 ghost use Prim.Native.Nat.{_+_, _*_, _<_};
+ghost use lib.ListN.{set};
 ghost use Rattle.links.specs.Heap.{beforeOf, entryAt, Lent, Ordered, Pushed, Popped};
 ghost use Rattle.links.specs.Sift.{Risen, Lesser, Sunk};
 use super::NodeNo;
+use super::index_of_node;
+use super::node_in;
+use super::put_node;
 use numbers::order::Ordering;
 
 pub struct Entry {
@@ -25,7 +29,7 @@ pub fn before(a: Entry, b: Entry) -> bool
     let o = numbers::order::total_cmp(a.est, b.est);
     match o {
         Ordering::Less => true,
-        Ordering::Equal => a.node.0 < b.node.0,
+        Ordering::Equal => index_of_node(a.node) < index_of_node(b.node),
         Ordering::Greater => false,
     }
 }
@@ -36,8 +40,17 @@ fn read(ests: &[f64], nodes: &[u32], i: usize) -> Entry
 {
     Entry {
         est: ests[i],
-        node: NodeNo(nodes[i]),
+        node: node_in(nodes, i),
     }
+}
+
+fn write(ests: &mut [f64], nodes: &mut [u32], i: usize, e: Entry)
+    requires { ⌜ Lent (now ests) (now nodes) (i + 1) ⌝ }
+    ensures { λ _. ⌜ now (ests .exit) ≡ set (now (ests .entry)) i (e .est) ⌝ }
+    ensures { λ _. ⌜ now (nodes .exit) ≡ set (now (nodes .entry)) i (e .node .0) ⌝ }
+{
+    ests[i] = e.est;
+    put_node(nodes, i, e.node);
 }
 
 // Moves the hole at n up past every entry that e comes before; the place where it stops.
@@ -49,15 +62,11 @@ fn rise(ests: &mut [f64], nodes: &mut [u32], n: usize, e: Entry) -> usize
     let mut k = n;
     while 0 < k {
         let up = (k - 1) / 2;
-        let f = Entry {
-            est: ests[up],
-            node: NodeNo(nodes[up]),
-        };
+        let f = read(ests, nodes, up);
         if !before(e, f) {
             return k;
         }
-        ests[k] = f.est;
-        nodes[k] = f.node.0;
+        write(ests, nodes, k, f);
         k = up;
     }
     k
@@ -70,8 +79,7 @@ pub fn push(ests: &mut [f64], nodes: &mut [u32], n: usize, e: Entry)
     ensures { λ _. ⌜ Pushed (now (ests .entry)) (now (nodes .entry)) n e (now (ests .exit)) (now (nodes .exit)) ⌝ }
 {
     let k = rise(ests, nodes, n, e);
-    ests[k] = e.est;
-    nodes[k] = e.node.0;
+    write(ests, nodes, k, e);
 }
 
 // The child of k, which has one among the first n, that comes first.
@@ -100,15 +108,11 @@ fn sink(ests: &mut [f64], nodes: &mut [u32], n: usize, e: Entry) -> usize
     let mut k = 0;
     while 2 * k + 1 < n {
         let c = child(ests, nodes, n, k);
-        let f = Entry {
-            est: ests[c],
-            node: NodeNo(nodes[c]),
-        };
+        let f = read(ests, nodes, c);
         if !before(f, e) {
             return k;
         }
-        ests[k] = f.est;
-        nodes[k] = f.node.0;
+        write(ests, nodes, k, f);
         k = c;
     }
     k
@@ -121,17 +125,10 @@ pub fn pop(ests: &mut [f64], nodes: &mut [u32], n: usize) -> Entry
     requires { ⌜ Ordered (entryAt (now ests) (now nodes)) n ⌝ }
     ensures { λ r. ⌜ Popped (now (ests .entry)) (now (nodes .entry)) n r (now (ests .exit)) (now (nodes .exit)) ⌝ }
 {
-    let first = Entry {
-        est: ests[0],
-        node: NodeNo(nodes[0]),
-    };
+    let first = read(ests, nodes, 0);
     let m = n - 1;
-    let last = Entry {
-        est: ests[m],
-        node: NodeNo(nodes[m]),
-    };
+    let last = read(ests, nodes, m);
     let k = sink(ests, nodes, m, last);
-    ests[k] = last.est;
-    nodes[k] = last.node.0;
+    write(ests, nodes, k, last);
     first
 }

@@ -7,6 +7,7 @@ ghost use Rattle.raster.specs.Grid.{Sides, Over};
 ghost use Rattle.links.specs.Lattice.{spacingOf, along, centreAt, nodeAt, latticeOf, nodes, cellOfNode, centreOf, nodeFree};
 ghost use Rattle.links.specs.Lattice.{besideX, besideY, onLattice, besideOf, IsNode, Laid, boundOf, Limited};
 use super::NodeNo;
+use super::index_of_node;
 use distance::limits::Bound;
 use distance::limits::Limit;
 use geom::vec2::Vec2;
@@ -122,8 +123,9 @@ pub fn cell_of_node(l: Lattice, v: NodeNo) -> CellNo
     ensures { λ c. ⌜ c ≡ cellOfNode l v ⌝ }
 {
     let g = l.grid;
-    let i = cell_along(v.0 as usize % l.gx, l.k, g.nx);
-    let j = cell_along(v.0 as usize / l.gx, l.k, g.ny);
+    let a = index_of_node(v);
+    let i = cell_along(a % l.gx, l.k, g.nx);
+    let j = cell_along(a / l.gx, l.k, g.ny);
     raster::grid::cell_no(g, i, j)
 }
 
@@ -133,7 +135,8 @@ pub fn centre(l: Lattice, v: NodeNo) -> Vec2
     ensures { λ p. ⌜ p ≡ centreOf l v ⌝ }
 {
     let g = l.grid;
-    centre_at(g, l.k, v.0 as usize % l.gx, v.0 as usize / l.gx)
+    let a = index_of_node(v);
+    centre_at(g, l.k, a % l.gx, a / l.gx)
 }
 
 fn bound_of(x: f64) -> Bound
@@ -216,7 +219,8 @@ pub fn beside(l: Lattice, v: NodeNo, d: usize) -> Neighbour
     requires { ⌜ d < 8 ⌝ }
     ensures { λ r. ⌜ r ≡ besideOf l v d ⌝ }
 {
-    let a = v.0 as usize % l.gx + step_x(d);
-    let b = v.0 as usize / l.gx + step_y(d);
+    let i = index_of_node(v);
+    let a = i % l.gx + step_x(d);
+    let b = i / l.gx + step_y(d);
     on_lattice(l, a, b)
 }

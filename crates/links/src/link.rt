@@ -5,28 +5,36 @@ ghost use lib.ListN.{length};
 ghost use Rattle.loops.specs.Frame.{Only};
 ghost use Rattle.distance.specs.Nearest.{squaresOf};
 ghost use Rattle.raster.specs.Grid.{Over};
-ghost use Rattle.setup.specs.Layout.{costFrom, pathEnd, pathFrom};
+ghost use Rattle.setup.specs.Layout.{costFrom, pathEnd, pathFrom, segmentsFrom};
 ghost use Rattle.setup.specs.Place.{cellsOf};
 ghost use Rattle.links.specs.Lattice.{nodes, Laid};
 ghost use Rattle.links.specs.Search.{seekOf, cells, Befores, outcomeIn};
-ghost use Rattle.links.specs.Path.{nodesOf, shortenOf, wallIn, clearIn, Fitted, keptIn};
-ghost use Rattle.links.specs.Link.{aroundOf, linkPath, linkedIn, beforeIn, noRoute};
+ghost use Rattle.links.specs.Path.{nodesOf, shortenOf, wallIn, clearIn, Fitted, shortIn};
+ghost use Rattle.links.specs.Link.{aroundOf, linkPath, linkedIn, workOf, beforeIn};
 use super::lattice::Lattice;
 use super::lattice::lattice_of;
 use super::lattice::limit_of;
 use super::lattice::nodes_of;
-use super::path::Kept;
+use super::path::Shortened;
 use super::search::Sought;
 use geom::vec2::Vec2;
 use raster::grid::Found;
 use setup::Setup;
 use setup::layout;
 
-// How many points the way has, and the work of its search.
-pub struct Route {
-    pub found: bool,
-    pub points: usize,
-    pub work: usize,
+// A way of so many points, or none; and the work of its search.
+pub enum Route {
+    Along(usize, usize),
+    Lost(usize),
+}
+
+pub fn work_of(r: Route) -> usize
+    ensures { λ n. ⌜ n ≡ workOf r ⌝ }
+{
+    match r {
+        Route::Along(_, work) => work,
+        Route::Lost(work) => work,
+    }
 }
 
 // The squares of the distance to stock, then the search.
@@ -34,10 +42,10 @@ fn search(l: Lattice, map: &[u8], allowed: &[u8], u: &mut [u32], costs: &mut [f6
     requires { ⌜ Laid l ⌝ }
     requires { ⌜ Over (l .grid) (length (now map)) ⌝ }
     requires { ⌜ Over (l .grid) (length (now allowed)) ⌝ }
-    requires { ⌜ 15 * cells l ≤ length (now u) ⌝ }
+    requires { ⌜ segmentsFrom (cells l) ≤ length (now u) ⌝ }
     requires { ⌜ 10 * cells l ≤ length (now costs) ⌝ }
     ensures { λ r. ⌜ outcomeIn l r (now (u .exit)) ≡ seekOf l (now (allowed .entry)) (squaresOf 1 (now (map .entry)) (l .grid .nx) (l .grid .ny)) ⌝ }
-    ensures { λ _. ⌜ Only 0 (15 * cells l) (now (u .entry)) (now (u .exit)) ⌝ }
+    ensures { λ _. ⌜ Only 0 (segmentsFrom (cells l)) (now (u .entry)) (now (u .exit)) ⌝ }
     ensures { λ _. ⌜ length (now (costs .exit)) ≡ length (now (costs .entry)) ⌝ }
 {
     let end = layout::before(l.grid.ny * l.grid.nx);
@@ -57,13 +65,13 @@ fn trace(
     l: Lattice,
     from: Vec2,
     to: Vec2,
-) -> Kept
+) -> Shortened
     requires { ⌜ Fitted s (now vs) (now lens) (now map) (now w) ⌝ }
     requires { ⌜ Laid l ⌝ }
     requires { ⌜ l .grid ≡ s .grid ⌝ }
-    requires { ⌜ 15 * cells l ≤ length (now u) ⌝ }
+    requires { ⌜ segmentsFrom (cells l) ≤ length (now u) ⌝ }
     requires { ⌜ Befores (nodes l) (beforeIn l (now u)) ⌝ }
-    ensures { λ r. ⌜ keptIn s r (now (w .exit)) ≡ shortenOf (clearIn s (now (vs .entry)) (now (lens .entry)) (now (map .entry)) (now (w .entry))) (nodesOf l (beforeIn l (now (u .entry))) to) from ⌝ }
+    ensures { λ r. ⌜ shortIn s r (now (w .exit)) ≡ shortenOf (clearIn s (now (vs .entry)) (now (lens .entry)) (now (map .entry)) (now (w .entry))) (nodesOf l (beforeIn l (now (u .entry))) to) from ⌝ }
     ensures { λ _. ⌜ Only (pathFrom (cellsOf s)) (pathEnd (cellsOf s)) (now (w .entry)) (now (w .exit)) ⌝ }
 {
     let n = nodes_of(l);
@@ -93,9 +101,9 @@ fn around(
     requires { ⌜ Laid l ⌝ }
     requires { ⌜ l .grid ≡ s .grid ⌝ }
     requires { ⌜ Over (s .grid) (length (now allowed)) ⌝ }
-    requires { ⌜ 15 * cellsOf s ≤ length (now u) ⌝ }
+    requires { ⌜ segmentsFrom (cellsOf s) ≤ length (now u) ⌝ }
     ensures { λ r. ⌜ linkedIn s r (now (w .exit)) ≡ aroundOf s (wallIn s (now (w .entry))) (now (vs .entry)) (now (lens .entry)) (now (map .entry)) (now (allowed .entry)) from to l ⌝ }
-    ensures { λ _. ⌜ Only 0 (15 * cellsOf s) (now (u .entry)) (now (u .exit)) ⌝ }
+    ensures { λ _. ⌜ Only 0 (segmentsFrom (cellsOf s)) (now (u .entry)) (now (u .exit)) ⌝ }
     ensures { λ _. ⌜ Only (costFrom (cellsOf s)) (pathEnd (cellsOf s)) (now (w .entry)) (now (w .exit)) ⌝ }
 {
     let n = s.grid.ny * s.grid.nx;
@@ -104,35 +112,12 @@ fn around(
     let o = search(l, map, allowed, u, &mut w[a..e]);
     let work = o.expanded * 8;
     if !o.found {
-        return Route {
-            found: false,
-            points: 0,
-            work,
-        };
+        return Route::Lost(work);
     }
     let k = trace(s, vs, lens, map, u, w, l, from, to);
     match k {
-        Kept::Lost => Route {
-            found: false,
-            points: 0,
-            work,
-        },
-        Kept::Points(points) => Route {
-            found: true,
-            points,
-            work,
-        },
-    }
-}
-
-// No way and no search.
-fn nowhere() -> Route
-    ensures { λ r. ⌜ r ≡ noRoute ⌝ }
-{
-    Route {
-        found: false,
-        points: 0,
-        work: 0,
+        Shortened::Blocked => Route::Lost(work),
+        Shortened::Points(points) => Route::Along(points, work),
     }
 }
 
@@ -151,27 +136,23 @@ pub fn link_path(
 ) -> Route
     requires { ⌜ Fitted s (now vs) (now lens) (now map) (now w) ⌝ }
     requires { ⌜ Over (s .grid) (length (now allowed)) ⌝ }
-    requires { ⌜ 15 * cellsOf s ≤ length (now u) ⌝ }
+    requires { ⌜ segmentsFrom (cellsOf s) ≤ length (now u) ⌝ }
     ensures { λ r. ⌜ linkedIn s r (now (w .exit)) ≡ linkPath s (wallIn s (now (w .entry))) (now (vs .entry)) (now (lens .entry)) (now (map .entry)) (now (allowed .entry)) from to ⌝ }
-    ensures { λ _. ⌜ Only 0 (15 * cellsOf s) (now (u .entry)) (now (u .exit)) ⌝ }
+    ensures { λ _. ⌜ Only 0 (segmentsFrom (cellsOf s)) (now (u .entry)) (now (u .exit)) ⌝ }
     ensures { λ _. ⌜ Only (costFrom (cellsOf s)) (pathEnd (cellsOf s)) (now (w .entry)) (now (w .exit)) ⌝ }
 {
     if super::path::clear(s, vs, lens, map, w, from, to) {
         super::path::keep(s, w, 0, to);
-        return Route {
-            found: true,
-            points: 1,
-            work: 0,
-        };
+        return Route::Along(1, 0);
     }
     let g = s.grid;
     let x = raster::grid::cell_of(g, from);
     let Found::At(i, j) = x else {
-        return nowhere();
+        return Route::Lost(0);
     };
     let z = raster::grid::cell_of(g, to);
     let Found::At(p, q) = z else {
-        return nowhere();
+        return Route::Lost(0);
     };
     let l = lattice_of(s, i, j, p, q);
     around(s, vs, lens, map, allowed, u, w, l, from, to)

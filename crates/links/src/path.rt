@@ -7,16 +7,18 @@ ghost use Rattle.loops.specs.Frame.{Only};
 ghost use Rattle.geom.specs.Region.{vertexOf};
 ghost use Rattle.geom.specs.Points.{putPoint, points};
 ghost use Rattle.raster.specs.Grid.{Sides};
-ghost use Rattle.setup.specs.Layout.{pathEnd, pathFrom};
+ghost use Rattle.setup.specs.Layout.{pathEnd, pathFrom, rimFrom};
 ghost use Rattle.setup.specs.Place.{cellsOf};
 ghost use Rattle.links.specs.Lattice.{nodes, Laid};
 ghost use Rattle.links.specs.Search.{Befores};
-ghost use Rattle.links.specs.Path.{nodesOf, farthestOf, shortenOf, pathIn, clearIn, Fitted, keptIn};
-use super::NodeNo;
+ghost use Rattle.links.specs.Path.{nodesOf, farthestOf, shortenOf, pathIn, clearIn, Fitted, shortIn};
+use super::index_of_node;
+use super::is_none;
 use super::lattice::Lattice;
 use super::lattice::centre;
 use super::lattice::nodes_of;
-use super::search::NO_NODE;
+use super::node_in;
+use super::same_node;
 use super::straight::link_clear;
 use geom::points::put;
 use geom::region::vertex;
@@ -31,8 +33,8 @@ pub enum Seen {
 }
 
 // How many points a shortened path has.
-pub enum Kept {
-    Lost,
+pub enum Shortened {
+    Blocked,
     Points(usize),
 }
 
@@ -50,17 +52,17 @@ pub fn lay(l: Lattice, before: &[u32], ps: &mut [f64], to: Vec2) -> usize
     let last = nodes_of(l) - 1;
     put(ps, last, to);
     let mut k = last;
-    let mut v = before[l.goal.0 as usize];
+    let mut v = node_in(before, index_of_node(l.goal));
     while 0 < k {
-        if v == NO_NODE {
+        if is_none(v) {
             return k;
         }
-        if v == l.start.0 {
+        if same_node(v, l.start) {
             return k;
         }
         k = k - 1;
-        put(ps, k, centre(l, NodeNo(v)));
-        v = before[v as usize];
+        put(ps, k, centre(l, v));
+        v = node_in(before, index_of_node(v));
     }
     k
 }
@@ -79,7 +81,7 @@ pub fn clear(s: Setup, vs: &[f64], lens: &[u32], map: &[u8], w: &[f64], a: Vec2,
 // Point k of the path.
 fn point(s: Setup, w: &[f64], k: usize) -> Vec2
     requires { ⌜ Sides (s .grid) ⌝ }
-    requires { ⌜ 32 * cellsOf s ≤ length (now w) ⌝ }
+    requires { ⌜ rimFrom (cellsOf s) ≤ length (now w) ⌝ }
     requires { ⌜ 2 * k + 1 < 3 * cellsOf s ⌝ }
     ensures { λ p. ⌜ p ≡ vertexOf (pathIn s (now (w .entry))) k ⌝ }
 {
@@ -119,7 +121,7 @@ fn farthest(
 // Keeps point p as point k of the path.
 pub fn keep(s: Setup, w: &mut [f64], k: usize, p: Vec2)
     requires { ⌜ Sides (s .grid) ⌝ }
-    requires { ⌜ 32 * cellsOf s ≤ length (now w) ⌝ }
+    requires { ⌜ rimFrom (cellsOf s) ≤ length (now w) ⌝ }
     requires { ⌜ 2 * k + 1 < 3 * cellsOf s ⌝ }
     ensures { λ _. ⌜ pathIn s (now (w .exit)) ≡ putPoint k p (pathIn s (now (w .entry))) ⌝ }
     ensures { λ _. ⌜ Only (pathFrom (cellsOf s)) (pathEnd (cellsOf s)) (now (w .entry)) (now (w .exit)) ⌝ }
@@ -141,11 +143,11 @@ pub fn shorten(
     from: Vec2,
     at: usize,
     end: usize,
-) -> Kept
+) -> Shortened
     requires { ⌜ Fitted s (now vs) (now lens) (now map) (now w) ⌝ }
     requires { ⌜ at ≤ end ⌝ }
     requires { ⌜ 2 * end ≤ 3 * cellsOf s ⌝ }
-    ensures { λ r. ⌜ keptIn s r (now (w .exit)) ≡ shortenOf (clearIn s (now (vs .entry)) (now (lens .entry)) (now (map .entry)) (now (w .entry))) (points at (end - at) (pathIn s (now (w .entry)))) from ⌝ }
+    ensures { λ r. ⌜ shortIn s r (now (w .exit)) ≡ shortenOf (clearIn s (now (vs .entry)) (now (lens .entry)) (now (map .entry)) (now (w .entry))) (points at (end - at) (pathIn s (now (w .entry)))) from ⌝ }
     ensures { λ _. ⌜ Only (pathFrom (cellsOf s)) (pathEnd (cellsOf s)) (now (w .entry)) (now (w .exit)) ⌝ }
 {
     let mut here = from;
@@ -154,12 +156,12 @@ pub fn shorten(
     while first < end {
         let f = farthest(s, vs, lens, map, w, here, first, end);
         let Seen::Point(k) = f else {
-            return Kept::Lost;
+            return Shortened::Blocked;
         };
         here = point(s, w, k);
         keep(s, w, kept, here);
         kept = kept + 1;
         first = k + 1;
     }
-    Kept::Points(kept)
+    Shortened::Points(kept)
 }

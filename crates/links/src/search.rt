@@ -7,18 +7,25 @@ ghost use Prim.Native.Nat.{_+_, _-_, _*_, _≤_, _<_};
 ghost use lib.ListN.{length, drop, replicate};
 ghost use Rattle.loops.specs.Frame.{Only};
 ghost use Rattle.raster.specs.Grid.{Over};
+ghost use Rattle.setup.specs.Layout.{beforeFrom, segmentsFrom};
 ghost use Rattle.links.specs.Lattice.{nodes, IsNode, Laid, Limited};
 ghost use Rattle.links.specs.Search.{top, noNode, started, opened, reopened, improved, offerOf, reachable, visitOf, expandOf, seekStep, seekOf};
 ghost use Rattle.links.specs.Search.{searchIn, Ready, Grown, cells, squaresIn, wordsIn, Searching, Visited, Sound, outcomeIn, turnIn, Turned};
+use super::NO_NODE;
 use super::NodeNo;
 use super::heap::Entry;
+use super::index_of_node;
 use super::lattice::Lattice;
 use super::lattice::Neighbour;
 use super::lattice::beside;
 use super::lattice::centre;
 use super::lattice::node_free;
 use super::lattice::nodes_of;
+use super::put_node;
+use super::same_node;
 use distance::limits::Limit;
+use setup::fill::fill_doubles;
+use setup::fill::fill_words;
 
 // Whether the goal was reached, and how many nodes were expanded.
 pub struct Sought {
@@ -32,9 +39,6 @@ pub enum Turn {
     Out(Sought),
 }
 
-// Stands for no node.
-pub const NO_NODE: u32 = 0xffff_ffff;
-
 // No node has a way yet.
 fn reset(words: &mut [u32], costs: &mut [f64], n: usize)
     requires { ⌜ n ≤ length (now words) ⌝ }
@@ -42,10 +46,8 @@ fn reset(words: &mut [u32], costs: &mut [f64], n: usize)
     ensures { λ _. ⌜ now (words .exit) ≡ replicate n noNode ++ drop n (now (words .entry)) ⌝ }
     ensures { λ _. ⌜ now (costs .exit) ≡ replicate n top ++ drop n (now (costs .entry)) ⌝ }
 {
-    for k in 0..n {
-        words[k] = NO_NODE;
-        costs[k] = f64::from_bits(0x7ff0_0000_0000_0000);
-    }
+    fill_words(&mut words[0..n], NO_NODE);
+    fill_doubles(&mut costs[0..n], f64::from_bits(0x7ff0_0000_0000_0000));
 }
 
 // Adds e to the m open entries.
@@ -81,9 +83,9 @@ fn improve(words: &mut [u32], costs: &mut [f64], n: usize, m: usize, v: NodeNo, 
     ensures { λ _. ⌜ searchIn n (m + 1) (now (words .exit)) (now (costs .exit)) ≡ improved v cand e (searchIn n m (now (words .entry)) (now (costs .entry))) ⌝ }
     ensures { λ _. ⌜ Grown n (m + 1) (now (words .entry)) (now (costs .entry)) (now (words .exit)) (now (costs .exit)) ⌝ }
 {
-    let k = e.node.0 as usize;
+    let k = index_of_node(e.node);
     costs[k] = cand;
-    words[k] = v.0;
+    put_node(words, k, v);
     add(words, costs, n, m, e);
 }
 
@@ -100,8 +102,10 @@ fn offer(l: Lattice, words: &mut [u32], costs: &mut [f64], m: usize, v: NodeNo, 
 {
     let n = nodes_of(l);
     let here = centre(l, t);
-    let cand = costs[v.0 as usize] + centre(l, v).distance(here);
-    if cand < costs[t.0 as usize] {
+    let i = index_of_node(v);
+    let cand = costs[i] + centre(l, v).distance(here);
+    let j = index_of_node(t);
+    if cand < costs[j] {
         let est = cand + here.distance(l.end);
         improve(words, costs, n, m, v, cand, Entry { est, node: t });
         return m + 1;
@@ -118,7 +122,7 @@ fn reaches(l: Lattice, limit: Limit, allowed: &[u8], squares: &[u32], t: NodeNo)
     requires { ⌜ Over (l .grid) (length (now squares)) ⌝ }
     ensures { λ b. ⌜ b ≡ reachable l (now (allowed .entry)) (now (squares .entry)) t ⌝ }
 {
-    if t.0 == l.goal.0 {
+    if same_node(t, l.goal) {
         return true;
     }
     node_free(l, limit, allowed, squares, t)
@@ -197,7 +201,8 @@ fn begin(l: Lattice, words: &mut [u32], costs: &mut [f64])
     let n = nodes_of(l);
     reset(words, costs, n);
     let v = l.start;
-    costs[v.0 as usize] = 0.0;
+    let i = index_of_node(v);
+    costs[i] = 0.0;
     let est = centre(l, v).distance(l.end);
     add(words, costs, n, 0, Entry { est, node: v });
 }
@@ -234,7 +239,7 @@ fn step(
     let most = nodes_of(l);
     let e = next(&mut u[from..to], costs, most, m);
     let v = e.node;
-    if v.0 == l.goal.0 {
+    if same_node(v, l.goal) {
         return Turn::Out(Sought {
             found: true,
             expanded: i,
@@ -257,7 +262,7 @@ fn run(l: Lattice, limit: Limit, allowed: &[u8], u: &mut [u32], costs: &mut [f64
     requires { ⌜ Searching l 1 (now u) (now costs) ⌝ }
     requires { ⌜ searchIn (nodes l) 1 (wordsIn l (now u)) (now costs) ≡ started l ⌝ }
     ensures { λ r. ⌜ outcomeIn l r (now (u .exit)) ≡ seekOf l (now (allowed .entry)) (squaresIn l (now (u .entry))) ⌝ }
-    ensures { λ _. ⌜ Only (5 * cells l) (15 * cells l) (now (u .entry)) (now (u .exit)) ⌝ }
+    ensures { λ _. ⌜ Only (beforeFrom (cells l)) (segmentsFrom (cells l)) (now (u .entry)) (now (u .exit)) ⌝ }
     ensures { λ _. ⌜ length (now (costs .exit)) ≡ length (now (costs .entry)) ⌝ }
 {
     let mut m = 1;
@@ -268,6 +273,7 @@ fn run(l: Lattice, limit: Limit, allowed: &[u8], u: &mut [u32], costs: &mut [f64
             Turn::Out(o) => return o,
         }
     }
+    // Not reached: the turn before would be one too many, and answers.
     Sought {
         found: false,
         expanded: 0,
@@ -279,10 +285,10 @@ pub fn seek(l: Lattice, limit: Limit, allowed: &[u8], u: &mut [u32], costs: &mut
     requires { ⌜ Laid l ⌝ }
     requires { ⌜ Limited l limit ⌝ }
     requires { ⌜ Over (l .grid) (length (now allowed)) ⌝ }
-    requires { ⌜ 15 * cells l ≤ length (now u) ⌝ }
+    requires { ⌜ segmentsFrom (cells l) ≤ length (now u) ⌝ }
     requires { ⌜ 10 * cells l ≤ length (now costs) ⌝ }
     ensures { λ r. ⌜ outcomeIn l r (now (u .exit)) ≡ seekOf l (now (allowed .entry)) (squaresIn l (now (u .entry))) ⌝ }
-    ensures { λ _. ⌜ Only (5 * cells l) (15 * cells l) (now (u .entry)) (now (u .exit)) ⌝ }
+    ensures { λ _. ⌜ Only (beforeFrom (cells l)) (segmentsFrom (cells l)) (now (u .entry)) (now (u .exit)) ⌝ }
     ensures { λ _. ⌜ length (now (costs .exit)) ≡ length (now (costs .entry)) ⌝ }
 {
     let n = l.grid.ny * l.grid.nx;

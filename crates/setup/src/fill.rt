@@ -17,3 +17,11 @@ pub fn fill_words(u: &mut [u32], v: u32)
         u[k] = v;
     }
 }
+
+pub fn fill_doubles(w: &mut [f64], v: f64)
+    ensures { λ _. ⌜ now (w .exit) ≡ replicate (length (now (w .entry))) v ⌝ }
+{
+    for k in 0..w.len() {
+        w[k] = v;
+    }
+}

@@ -1,5 +1,6 @@
 -- `links::heap::before` meets its contract. Assumes nothing.
 use mathlib.Core.Path.{sym, _∙_}
+use lib.Dec.{ltb}
 use Rattle.numbers.specs.declared.order.Ordering.the-variants.{Less, Equal, Greater}
 use Rattle.links.specs.Heap.{settled}
 use Rattle.links.proofs.OrderLaws.{before-less, before-greater, before-by}
@@ -22,6 +23,12 @@ enum-told c = search needs
 enum-told-2 : tie.Need-enum-told-2
 enum-told-2 c = search needs
 
+index-of-node-requires : tie.Need-index-of-node-requires
+index-of-node-requires c κs = search needs
+
+index-of-node-requires-2 : tie.Need-index-of-node-requires-2
+index-of-node-requires-2 c κs = search needs
+
 enum-told-3 : tie.Need-enum-told-3
 enum-told-3 c = search needs
 
@@ -31,7 +38,7 @@ returns-3 c = before-by _ _ Less (sym (c .enum-told .given .1) ∙ c .before .be
 
 returns-4 : tie.Need-returns-4
 unfolding settled
-returns-4 c = before-by _ _ Equal (sym (c .before .before .enum-told2 .given .1) ∙ c .before .before .before .before .total-cmp .ensures)
+returns-4 c = (λ i. ltb (c .before .index-of-node .ensures i) (c .index-of-node2 .ensures i)) ∙ before-by _ _ Equal (sym (c .before .before .enum-told2 .given .1) ∙ c .before .before .before .before .total-cmp .ensures)
 
 returns-5 : tie.Need-returns-5
 unfolding settled
@@ -46,6 +53,8 @@ before-spec =
     total-cmp-requires
     enum-told
     enum-told-2
+    index-of-node-requires
+    index-of-node-requires-2
     enum-told-3
     returns-3
     returns-4

@@ -7,17 +7,8 @@ use Rattle.links.proofs.heap.push.Tie as tie
 rise-requires : tie.Need-rise-requires
 rise-requires c κs = search needs
 
-mul-ests : tie.Need-mul-ests
-mul-ests c = search needs
-
-slice-write-ests : tie.Need-slice-write-ests
-slice-write-ests c = search needs
-
-mul-nodes : tie.Need-mul-nodes
-mul-nodes c = search needs
-
-slice-write-nodes : tie.Need-slice-write-nodes
-slice-write-nodes c = search needs
+write-requires : tie.Need-write-requires
+write-requires c κs = search needs
 
 same-length : tie.Need-same-length
 same-length c = search needs
@@ -26,17 +17,7 @@ same-length-2 : tie.Need-same-length-2
 same-length-2 c = search needs
 
 returns : tie.Need-returns
-returns c = pushed _ _ _ _ _ _ _ (c .before .before .before .before .before .before .before .before .before .pre .0) (c .before .before .before .before .rise .ensures)
+returns c = pushed _ _ _ _ _ _ _ (c .before .before .before .before .before .before .before .before .before .before .before .before .before .before .before .before .pre .0) (c .before .before .before .before .before .before .before .before .before .before .before .rise .ensures) _ _ (c .before .before .before .before .write .ensures)
 
 pub push-spec : {M : Type 1} → statement M
-push-spec =
-    tie.close
-    (tie.spec
-    rise-requires
-    mul-ests
-    slice-write-ests
-    mul-nodes
-    slice-write-nodes
-    same-length
-    same-length-2
-    returns)
+push-spec = tie.close (tie.spec rise-requires write-requires same-length same-length-2 returns)

@@ -1,6 +1,11 @@
 -- `links::heap::read` meets its contract. Assumes nothing.
-use mathlib.Core.Path.{refl}
+use mathlib.Core.Path.{ap}
+use lib.ListN.{getD}
+use lib.Ieee.{nan}
+use Rattle.links.specs.declared.NodeNo.{NodeNo}
+use Rattle.links.specs.declared.heap.Entry.{Entry}
 use Rattle.links.specs.Heap.{entryAt}
+use Rattle.links.specs.Search.{entry}
 use borrow.Author.Needs.{needs}
 use Rattle.links.proofs.heap.read.Statement.{statement}
 use Rattle.links.proofs.heap.read.Tie as tie
@@ -11,15 +16,12 @@ mul-t4 c = search needs
 shared-slice-read-t6 : tie.Need-shared-slice-read-t6
 shared-slice-read-t6 c = search needs
 
-mul-t7 : tie.Need-mul-t7
-mul-t7 c = search needs
-
-shared-slice-read-t9 : tie.Need-shared-slice-read-t9
-shared-slice-read-t9 c = search needs
+node-in-requires : tie.Need-node-in-requires
+node-in-requires c κs = search needs
 
 returns : tie.Need-returns
 unfolding entryAt
-returns c = refl
+returns c = ap (entry (getD (c .before .before .before .before .args .ests .now) (c .before .before .before .before .args .i) nan)) (c .node-in .ensures)
 
 pub read-spec : {M : Type 1} → statement M
-read-spec = tie.close (tie.spec mul-t4 shared-slice-read-t6 mul-t7 shared-slice-read-t9 returns)
+read-spec = tie.close (tie.spec mul-t4 shared-slice-read-t6 node-in-requires returns)

@@ -1,5 +1,6 @@
 -- `links::search::begin` meets its contract. Assumes nothing.
-use Rattle.links.proofs.SeekLaws.{begin-asks, begin-long, begin-is}
+use native.Mathlib.Omega.{arith}
+use Rattle.links.proofs.SeekLaws.{start-in, begin-asks, begin-long, begin-is}
 use borrow.Author.Needs.{needs}
 use Rattle.links.proofs.search.begin.Statement.{statement}
 use Rattle.links.proofs.search.begin.Tie as tie
@@ -10,14 +11,14 @@ nodes-of-requires c κs = search needs
 reset-requires : tie.Need-reset-requires
 reset-requires c κs = search needs
 
-cast-costs : tie.Need-cast-costs
-cast-costs c = search needs
+index-of-node-requires : tie.Need-index-of-node-requires
+index-of-node-requires c κs = search needs
 
 mul-costs : tie.Need-mul-costs
 mul-costs c = search needs
 
 slice-write-costs : tie.Need-slice-write-costs
-slice-write-costs c = search needs
+slice-write-costs c = let s = c .before .before .before .before .before .before .before .before .before .before .before .before in omega (arith, start-in _ (s .pre .0) _ _ (s .pre .1 .0) (s .pre .1 .1) _ (c .before .before .before .before .before .before .before .before .before .nodes-of .ensures) _ _ (c .before .before .before .before .before .before .reset .ensures .0) (c .before .before .before .before .before .before .reset .ensures .1) _ (c .index-of-node .ensures))
 
 centre-requires : tie.Need-centre-requires
 centre-requires c κs = search needs
@@ -26,16 +27,16 @@ distance-requires : tie.Need-distance-requires
 distance-requires c κs = search needs
 
 add-requires : tie.Need-add-requires
-add-requires c κs = let s = c .before .before .before .before .before .before .before .before .before .before .before .before .before .before .before .before in begin-asks _ (s .pre .0) _ _ (s .pre .1 .0) (s .pre .1 .1) _ (c .before .before .before .before .before .before .before .before .before .before .before .before .before .nodes-of .ensures) _ _ (c .before .before .before .before .before .before .before .before .before .before .reset .ensures .0) (c .before .before .before .before .before .before .before .before .before .before .reset .ensures .1)
+add-requires c κs = let s = c .before .before .before .before .before .before .before .before .before .before .before .before .before .before .before .before in begin-asks _ (s .pre .0) _ _ (s .pre .1 .0) (s .pre .1 .1) _ (c .before .before .before .before .before .before .before .before .before .before .before .before .before .nodes-of .ensures) _ _ (c .before .before .before .before .before .before .before .before .before .before .reset .ensures .0) (c .before .before .before .before .before .before .before .before .before .before .reset .ensures .1) _ (c .before .before .before .before .index-of-node .ensures)
 
 same-length : tie.Need-same-length
 same-length c = search needs
 
 same-length-2 : tie.Need-same-length-2
-same-length-2 c = let s = c .before .before .before .before .before .before .before .before .before .before .before .before .before .before .before .before .before .before .before .before .before in begin-long _ (s .pre .0) _ _ (s .pre .1 .0) (s .pre .1 .1) _ (c .before .before .before .before .before .before .before .before .before .before .before .before .before .before .before .before .before .before .nodes-of .ensures) _ _ (c .before .before .before .before .before .before .before .before .before .before .before .before .before .before .before .reset .ensures .0) (c .before .before .before .before .before .before .before .before .before .before .before .before .before .before .before .reset .ensures .1) _ _ (c .before .before .before .before .add .ensures .1)
+same-length-2 c = let s = c .before .before .before .before .before .before .before .before .before .before .before .before .before .before .before .before .before .before .before .before .before in begin-long _ (s .pre .0) _ _ (s .pre .1 .0) (s .pre .1 .1) _ (c .before .before .before .before .before .before .before .before .before .before .before .before .before .before .before .before .before .before .nodes-of .ensures) _ _ (c .before .before .before .before .before .before .before .before .before .before .before .before .before .before .before .reset .ensures .0) (c .before .before .before .before .before .before .before .before .before .before .before .before .before .before .before .reset .ensures .1) _ (c .before .before .before .before .before .before .before .before .before .index-of-node .ensures) _ _ (c .before .before .before .before .add .ensures .1)
 
 returns : tie.Need-returns
-returns c = let s = c .before .before .before .before .before .before .before .before .before .before .before .before .before .before .before .before .before .before .before .before .before in begin-is _ (s .pre .0) _ _ (s .pre .1 .0) (s .pre .1 .1) _ (c .before .before .before .before .before .before .before .before .before .before .before .before .before .before .before .before .before .before .nodes-of .ensures) _ _ (c .before .before .before .before .before .before .before .before .before .before .before .before .before .before .before .reset .ensures .0) (c .before .before .before .before .before .before .before .before .before .before .before .before .before .before .before .reset .ensures .1) _ (c .before .before .before .before .before .before .before .before .centre .ensures) _ (c .before .before .before .before .before .before .before .distance .ensures) _ _ (c .before .before .before .before .add .ensures .0) (c .before .before .before .before .add .ensures .1)
+returns c = let s = c .before .before .before .before .before .before .before .before .before .before .before .before .before .before .before .before .before .before .before .before .before in begin-is _ (s .pre .0) _ _ (s .pre .1 .0) (s .pre .1 .1) _ (c .before .before .before .before .before .before .before .before .before .before .before .before .before .before .before .before .before .before .nodes-of .ensures) _ _ (c .before .before .before .before .before .before .before .before .before .before .before .before .before .before .before .reset .ensures .0) (c .before .before .before .before .before .before .before .before .before .before .before .before .before .before .before .reset .ensures .1) _ (c .before .before .before .before .before .before .before .before .before .index-of-node .ensures) _ (c .before .before .before .before .before .before .before .before .centre .ensures) _ (c .before .before .before .before .before .before .before .distance .ensures) _ _ (c .before .before .before .before .add .ensures .0) (c .before .before .before .before .add .ensures .1)
 
 pub begin-spec : {M : Type 1} → statement M
 begin-spec =
@@ -43,7 +44,7 @@ begin-spec =
     (tie.spec
     nodes-of-requires
     reset-requires
-    cast-costs
+    index-of-node-requires
     mul-costs
     slice-write-costs
     centre-requires

@@ -1,86 +1,60 @@
--- `links::search::reset` meets its contract. The invariant: the first k places are done. Assumes nothing.
-use lib.Ieee.{nanBits, Float}
-use Rattle.links.specs.Search.{top, noNode}
-use lib.ListN.{length, set, drop, replicate}
-use Prim.Native.Nat.{ℕ, _-_, _≤_}
-use mathlib.Core.List.{List, _++_}
-use mathlib.Core.Path.{_≡_, ap, _∙_}
-use native.Mathlib.Omega.{arith}
-use Rattle.loops.proofs.FillLaws.{filled-none, filled-more, filled-length}
+-- `links::search::reset` meets its contract. Assumes nothing.
+use lib.Ieee.{nanBits}
+use Rattle.links.proofs.SeekLaws.{front-filled}
+use borrow.Author.Needs.{needs}
 use Rattle.links.proofs.search.reset.Statement.{statement}
 use Rattle.links.proofs.search.reset.Tie as tie
 
-abbrev Inv-loop : tie.InvT-loop
-Inv-loop words₀ costs₀ n k₀ words costs k = (k ≤ n) × ((words ≡ replicate k noNode ++ drop k words₀) × (costs ≡ replicate k top ++ drop k costs₀))
+sub-fill-words : tie.Need-sub-fill-words
+sub-fill-words c = search needs
 
-abbrev μ-loop : tie.MeasureT-loop
-μ-loop words₀ costs₀ n k₀ words costs k = n - k
+part-fill-words-start : tie.Need-part-fill-words-start
+part-fill-words-start c = search needs
 
-loop-holds : tie.Need-loop-holds Inv-loop μ-loop
-loop-holds c = (omega arith, (filled-none noNode _, filled-none top _))
+part-fill-words-end : tie.Need-part-fill-words-end
+part-fill-words-end c = search needs
 
-mul-words : tie.Need-mul-words Inv-loop μ-loop
-mul-words c = omega (arith, c .loop-test .taken, c .before .before .pre .0)
+fill-words-requires : tie.Need-fill-words-requires
+fill-words-requires c κs = search needs
 
-slice-write-words : tie.Need-slice-write-words Inv-loop μ-loop
-slice-write-words c = let l = c .before .loop in omega (arith, ap length (l .inv .1 .0), filled-length noNode (c .before .before .args .words .now) (l .k) (omega (arith, c .before .before .pre .0, l .inv .0)), c .before .before .pre .0, c .loop-test .taken)
+sub-fill-doubles : tie.Need-sub-fill-doubles
+sub-fill-doubles c = search needs
 
-float-from-bits-costs : tie.Need-float-from-bits-costs Inv-loop μ-loop
+part-fill-doubles-start : tie.Need-part-fill-doubles-start
+part-fill-doubles-start c = search needs
+
+part-fill-doubles-end : tie.Need-part-fill-doubles-end
+part-fill-doubles-end c = search needs
+
+float-from-bits-fill-doubles : tie.Need-float-from-bits-fill-doubles
 unfolding nanBits
-float-from-bits-costs c = tt
+float-from-bits-fill-doubles c = tt
 
-mul-costs : tie.Need-mul-costs Inv-loop μ-loop
-mul-costs c = omega (arith, c .loop-test .taken, c .before .before .pre .0)
+fill-doubles-requires : tie.Need-fill-doubles-requires
+fill-doubles-requires c κs = search needs
 
-slice-write-costs : tie.Need-slice-write-costs Inv-loop μ-loop
-slice-write-costs c = let l = c .before .loop in omega (arith, ap length (l .inv .1 .1), filled-length top (c .before .before .args .costs .now) (l .k) (omega (arith, c .before .before .pre .1, l .inv .0)), c .before .before .pre .1, c .loop-test .taken)
+same-length : tie.Need-same-length
+same-length c = search needs
 
-add-k : tie.Need-add-k Inv-loop μ-loop
-add-k c = omega (arith, c .loop-test .taken)
+same-length-2 : tie.Need-same-length-2
+same-length-2 c = search needs
 
-loop-less : tie.Need-loop-less Inv-loop μ-loop
-loop-less c = omega (arith, c .loop-test .taken)
-
-loop-again : tie.Need-loop-again Inv-loop μ-loop
-loop-again c =
-    let s = c .before .before in
-    let l = c .before .loop in
-    let h = c .loop-test .taken in (
-      omega arith,
-      (
-        ap (λ (w : List ℕ). set w (l .k) noNode) (l .inv .1 .0) ∙ filled-more noNode (s .args .words .now) (l .k) (omega (arith, s .pre .0)),
-        ap (λ (w : List Float). set w (l .k) top) (l .inv .1 .1) ∙ filled-more top (s .args .costs .now) (l .k) (omega (arith, s .pre .1)),
-      ),
-    )
-
-same-length : tie.Need-same-length Inv-loop μ-loop
-same-length c = let l = c .before .loop in ap length (l .inv .1 .0) ∙ filled-length noNode (c .before .before .args .words .now) (l .k) (omega (arith, c .before .before .pre .0, l .inv .0))
-
-same-length-2 : tie.Need-same-length-2 Inv-loop μ-loop
-same-length-2 c = let l = c .before .loop in ap length (l .inv .1 .1) ∙ filled-length top (c .before .before .args .costs .now) (l .k) (omega (arith, c .before .before .pre .1, l .inv .0))
-
-returns : tie.Need-returns Inv-loop μ-loop
-returns c =
-    let s = c .before .before in
-    let l = c .before .loop in
-    let e : l .k ≡ s .args .n = omega (arith, l .inv .0, c .loop-test .left) in
-    (l .inv .1 .0 ∙ ap (λ (k : ℕ). replicate k noNode ++ drop k (s .args .words .now)) e, l .inv .1 .1 ∙ ap (λ (k : ℕ). replicate k top ++ drop k (s .args .costs .now)) e)
+returns : tie.Need-returns
+returns c = let s = c .before .before .before .before .before .before .before .before .before .before in (front-filled _ (s .args .words .now) _ (s .pre .0) _ (c .before .before .before .before .before .before .fill-words .ensures), front-filled _ (s .args .costs .now) _ (s .pre .1) _ (c .before .before .fill-doubles .ensures))
 
 pub reset-spec : {M : Type 1} → statement M
 reset-spec =
     tie.close
     (tie.spec
-    Inv-loop
-    μ-loop
-    loop-holds
-    mul-words
-    slice-write-words
-    float-from-bits-costs
-    mul-costs
-    slice-write-costs
-    add-k
-    loop-less
-    loop-again
+    sub-fill-words
+    part-fill-words-start
+    part-fill-words-end
+    fill-words-requires
+    sub-fill-doubles
+    part-fill-doubles-start
+    part-fill-doubles-end
+    float-from-bits-fill-doubles
+    fill-doubles-requires
     same-length
     same-length-2
     returns)

@@ -1,6 +1,8 @@
 -- `links::search::step` meets its contract. Assumes nothing.
-use Rattle.loops.specs.Regions.{within}
+use mathlib.Core.Path.{sym, _∙_}
 use native.Mathlib.Omega.{arith}
+use borrow.Author.Tests.{eqb-true, eqb-false}
+use Rattle.loops.specs.Regions.{within}
 use Rattle.links.proofs.LatticeLaws.{nodes-most}
 use Rattle.links.proofs.SeekLaws.{step-none, next-fits, step-goal, step-spent, step-node, step-room, step-on}
 use borrow.Author.Needs.{needs}
@@ -8,7 +10,7 @@ use Rattle.links.proofs.search.step.Statement.{statement}
 use Rattle.links.proofs.search.step.Tie as tie
 
 returns : tie.Need-returns
-returns c = let s = c .before .before .before .before in step-none _ _ _ _ _ _ (s .pre .1 .1 .1 .0) (c .if1 .taken)
+returns c = step-none _ _ _ _ _ _ (c .before .before .before .before .pre .1 .1 .1 .0) (c .if1 .taken)
 
 mul-n : tie.Need-mul-n
 mul-n c = search needs
@@ -38,6 +40,9 @@ next-requires : tie.Need-next-requires
 unfolding within
 next-requires c κs = let s = c .before .before .before .before .before .before .before .before in next-fits _ (s .args .allowed .now) _ _ _ (s .args .i) (s .pre .1 .1 .1 .0) (s .pre .0) _ (c .before .before .nodes-of .ensures) (c .before .before .before .before .if1 .left)
 
+same-node-requires : tie.Need-same-node-requires
+same-node-requires c κs = search needs
+
 same-length : tie.Need-same-length
 same-length c = search needs
 
@@ -46,10 +51,10 @@ same-length-2 c = search needs
 
 returns-2 : tie.Need-returns-2
 unfolding within
-returns-2 c = let s = c .before .before .before .before .before .before .before .before .before .before .before .before .before .before .before .before .before in step-goal _ _ _ _ _ (s .args .i) (s .pre .1 .1 .1 .0) _ (c .before .before .before .before .before .before .before .before .before .before .before .nodes-of .ensures) _ _ _ (c .before .before .before .before .before .before .before .before .next .ensures .0) (c .before .before .before .before .before .before .before .before .next .ensures .1) (c .if2 .taken)
+returns-2 c = let s = c .before .before .before .before .before .before .before .before .before .before .before .before .before .before .before .before in step-goal _ _ _ _ _ (s .args .i) (s .pre .1 .1 .1 .0) _ (c .before .before .before .before .before .before .before .before .before .before .nodes-of .ensures) _ _ _ (c .before .before .before .before .before .before .before .next .ensures .0) (c .before .before .before .before .before .before .before .next .ensures .1) (eqb-true _ _ (sym (c .before .same-node .ensures) ∙ c .if2 .taken))
 
-add-t24 : tie.Need-add-t24
-add-t24 c = let s = c .before .before .before .before .before .before .before .before .before .before .before .before .before .before .before .before .before .before in omega (arith, s .pre .1 .1 .1 .1 .1 .1, nodes-most _ (s .pre .0))
+add-t25 : tie.Need-add-t25
+add-t25 c = let s = c .before .before .before .before .before .before .before .before .before .before .before .before .before .before .before .before .before in omega (arith, s .pre .1 .1 .1 .1 .1 .1, nodes-most _ (s .pre .0))
 
 same-length-3 : tie.Need-same-length-3
 same-length-3 c = search needs
@@ -59,22 +64,14 @@ same-length-4 c = search needs
 
 returns-3 : tie.Need-returns-3
 unfolding within
-returns-3 c = let s = c .before .before .before .before .before .before .before .before .before .before .before .before .before .before .before .before .before .before in step-spent _ _ _ _ _ (s .args .i) (s .pre .1 .1 .1 .0) _ (c .before .before .before .before .before .before .before .before .before .before .before .before .nodes-of .ensures) _ _ _ (c .before .before .before .before .before .before .before .before .before .next .ensures .0) (c .before .before .before .before .before .before .before .before .before .next .ensures .1) (c .before .if2 .left) (c .if3 .taken)
+returns-3 c = let s = c .before .before .before .before .before .before .before .before .before .before .before .before .before .before .before .before .before in step-spent _ _ _ _ _ (s .args .i) (s .pre .1 .1 .1 .0) _ (c .before .before .before .before .before .before .before .before .before .before .before .nodes-of .ensures) _ _ _ (c .before .before .before .before .before .before .before .before .next .ensures .0) (c .before .before .before .before .before .before .before .before .next .ensures .1) (eqb-false _ _ (sym (c .before .before .same-node .ensures) ∙ c .before .if2 .left)) (c .if3 .taken)
 
 sub-expand : tie.Need-sub-expand
 sub-expand c = search needs
 
 expand-requires : tie.Need-expand-requires
 unfolding within
-expand-requires c κs =
-    let s = c .before .before .before .before .before .before .before .before .before .before .before .before .before .before .before .before .before .before .before .before in
-    let D = s .pre .1 .1 .1 .1 .0 in
-    let M = s .pre .1 .1 .1 .1 .1 .0 in
-    let N = c .before .before .before .before .before .before .before .before .before .before .before .before .before .before .nodes-of .ensures in
-    let e = c .before .before .before .before .before .before .before .before .before .before .before .next .ensures in
-    let I = c .before .before .if3 .left in
-    let w = step-room _ (s .args .allowed .now) _ _ _ (s .args .i) (s .pre .1 .1 .1 .0) _ N _ _ _ (e .0) (e .1) D M I in
-    (s .pre .0, (step-node _ (s .args .allowed .now) _ _ _ (s .args .i) (s .pre .1 .1 .1 .0) _ N _ _ _ (e .0) (e .1) D M I, (s .pre .1 .0, (s .pre .1 .1 .0, (w .0, w .1)))))
+expand-requires c κs = let s = c .before .before .before .before .before .before .before .before .before .before .before .before .before .before .before .before .before .before .before in let D = s .pre .1 .1 .1 .1 .0 in let M = s .pre .1 .1 .1 .1 .1 .0 in let N = c .before .before .before .before .before .before .before .before .before .before .before .before .before .nodes-of .ensures in let e = c .before .before .before .before .before .before .before .before .before .before .next .ensures in let I = c .before .before .if3 .left in let w = step-room _ (s .args .allowed .now) _ _ _ (s .args .i) (s .pre .1 .1 .1 .0) _ N _ _ _ (e .0) (e .1) D M I in (s .pre .0, (step-node _ (s .args .allowed .now) _ _ _ (s .args .i) (s .pre .1 .1 .1 .0) _ N _ _ _ (e .0) (e .1) D M I, (s .pre .1 .0, (s .pre .1 .1 .0, (w .0, w .1)))))
 
 same-length-5 : tie.Need-same-length-5
 same-length-5 c = search needs
@@ -84,13 +81,7 @@ same-length-6 c = search needs
 
 returns-4 : tie.Need-returns-4
 unfolding within
-returns-4 c =
-    let s = c .before .before .before .before .before .before .before .before .before .before .before .before .before .before .before .before .before .before .before .before .before .before .before .before .before in
-    let D = s .pre .1 .1 .1 .1 .0 in
-    let M = s .pre .1 .1 .1 .1 .1 .0 in
-    let e = c .before .before .before .before .before .before .before .before .before .before .before .before .before .before .before .before .next .ensures in
-    let x = c .before .before .before .before .expand .ensures in
-    step-on _ (s .args .allowed .now) _ _ _ (s .args .i) (s .pre .1 .1 .1 .0) _ (c .before .before .before .before .before .before .before .before .before .before .before .before .before .before .before .before .before .before .before .nodes-of .ensures) _ _ _ (e .0) (e .1) D M (c .before .before .before .before .before .before .before .if3 .left) (c .before .before .before .before .before .before .before .before .if2 .left) _ _ _ (x .0) (x .1 .0) (x .1 .1)
+returns-4 c = let s = c .before .before .before .before .before .before .before .before .before .before .before .before .before .before .before .before .before .before .before .before .before .before .before .before in let D = s .pre .1 .1 .1 .1 .0 in let M = s .pre .1 .1 .1 .1 .1 .0 in let e = c .before .before .before .before .before .before .before .before .before .before .before .before .before .before .before .next .ensures in let x = c .before .before .before .before .expand .ensures in step-on _ (s .args .allowed .now) _ _ _ (s .args .i) (s .pre .1 .1 .1 .0) _ (c .before .before .before .before .before .before .before .before .before .before .before .before .before .before .before .before .before .before .nodes-of .ensures) _ _ _ (e .0) (e .1) D M (c .before .before .before .before .before .before .before .if3 .left) (eqb-false _ _ (sym (c .before .before .before .before .before .before .before .before .before .same-node .ensures) ∙ c .before .before .before .before .before .before .before .before .if2 .left)) _ _ _ (x .0) (x .1 .0) (x .1 .1)
 
 pub step-spec : {M : Type 1} → statement M
 step-spec =
@@ -106,10 +97,11 @@ step-spec =
     part-next-start
     part-next-end
     next-requires
+    same-node-requires
     same-length
     same-length-2
     returns-2
-    add-t24
+    add-t25
     same-length-3
     same-length-4
     returns-3
