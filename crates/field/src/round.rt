@@ -2,7 +2,6 @@
 ghost use mathlib.Core.Path.{_≡_};
 ghost use Prim.Native.Nat.{_+_, _*_, _≤_};
 ghost use lib.ListN.{length, replicate};
-ghost use lib.Ieee.{nan};
 ghost use Rattle.distance.specs.Nearest.{listed};
 ghost use Rattle.raster.specs.Grid.{Sides};
 ghost use Rattle.setup.specs.Layout.{putRun};
@@ -13,16 +12,8 @@ use super::rows::field_rows;
 use raster::grid::Grid;
 use setup::Setup;
 use setup::fill::fill_bytes;
+use setup::fill::fill_singles;
 use setup::layout;
-
-// Nothing is known of any cell.
-fn fill(f: &mut [f32])
-    ensures { λ _. ⌜ now (f .exit) ≡ replicate (length (now (f .entry))) nan ⌝ }
-{
-    for k in 0..f.len() {
-        f[k] = 0.0 / 0.0;
-    }
-}
 
 // The squares of the distance to cells that are marked in the bytes from a on, written to the words from
 // c on; the transform's scratch is behind them.
@@ -72,7 +63,8 @@ fn begin(g: Grid, all: bool, b: &[u8], u: &mut [u32], f: &mut [f32])
 {
     if all {
         let n = layout::cells(g);
-        fill(&mut f[0..n]);
+        // nothing is known of any cell
+        fill_singles(&mut f[0..n], 0.0 / 0.0);
         return;
     }
     near_squares(g, b, u);

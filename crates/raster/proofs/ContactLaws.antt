@@ -15,6 +15,7 @@ use Rattle.loops.proofs.LoopLaws.{loop-keeps, loop-none}
 use Rattle.geom.specs.Vec.{v2, sum, scaled}
 use Rattle.geom.specs.declared.vec2.Vec2.{Vec2}
 use Rattle.raster.specs.Grid.{stockAt}
+use Rattle.geom.specs.Points.{putPoint}
 use Rattle.raster.specs.Contact.{samplesOf, directionAt, rimAt, hitAt, hitsOf, angleOf, engagementOf, Rim, putRim, rimmed}
 use Rattle.raster.specs.declared.grid.Grid.{Grid}
 use Rattle.raster.proofs.SweepLaws.{loop-suc}
@@ -22,27 +23,27 @@ use Rattle.raster.proofs.SweepLaws.{loop-suc}
 -- ---- the table
 
 put-long : (n k : ℕ) (w : List Float) → length (putRim n k w) ≡ length w
-unfolding putRim
+unfolding putRim putPoint
 put-long n k w = length-set (set w (2 * k) (directionAt n k .x)) (2 * k + 1) (directionAt n k .y) ∙ length-set w (2 * k) (directionAt n k .x)
 
 pub rim-long : (n a e : ℕ) (w : List Float) → length (loop (putRim n) a e w) ≡ length w
 rim-long n a e w = loop-keeps (putRim n) a (λ (v : List Float). length v ≡ length w) e (λ i v b c h. put-long n i v ∙ h) w refl
 
 put-x : (n k : ℕ) (w : List Float) → 2 * k + 1 < length w → getD (putRim n k w) (2 * k) nan ≡ directionAt n k .x
-unfolding putRim
+unfolding putRim putPoint
 put-x n k w h =
     getD-set-other (set w (2 * k) (directionAt n k .x)) (2 * k + 1) (2 * k) (directionAt n k .y) nan (omega arith)
     ∙ getD-set-same w (2 * k) (directionAt n k .x) nan (omega arith)
 
 put-y : (n k : ℕ) (w : List Float) → 2 * k + 1 < length w → getD (putRim n k w) (2 * k + 1) nan ≡ directionAt n k .y
-unfolding putRim
+unfolding putRim putPoint
 put-y n k w h =
     getD-set-same (set w (2 * k) (directionAt n k .x)) (2 * k + 1) (directionAt n k .y) nan
     (subst (λ (l : ℕ). 2 * k + 1 < l) (sym (length-set w (2 * k) (directionAt n k .x))) h)
 
 -- an earlier entry stays
 put-other : (n k i : ℕ) (w : List Float) → i < 2 * k → getD (putRim n k w) i nan ≡ getD w i nan
-unfolding putRim
+unfolding putRim putPoint
 put-other n k i w h =
     getD-set-other (set w (2 * k) (directionAt n k .x)) (2 * k + 1) i (directionAt n k .y) nan (omega arith)
     ∙ getD-set-other w (2 * k) i (directionAt n k .x) nan (omega arith)
@@ -73,7 +74,7 @@ rim-is n w v h e =
     subst (Rim n) (sym e) (record { long = omega (arith, rim-long n 0 n w); x = filled n n w h .x; y = filled n n w h .y })
 
 pub put-is : (n k : ℕ) (w : List Float) (u : Vec2) → u ≡ directionAt n k → set (set w (2 * k) (u .x)) (2 * k + 1) (u .y) ≡ putRim n k w
-unfolding putRim
+unfolding putRim putPoint
 put-is n k w u e = ap (λ (d : Vec2). set (set w (2 * k) (d .x)) (2 * k + 1) (d .y)) e
 
 -- ---- hits

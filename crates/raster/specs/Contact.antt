@@ -3,10 +3,11 @@ use Prim.Native.Nat.{ℕ, _+_, _*_, _≤_, _<_, max}
 use mathlib.Core.Path.{_≡_}
 use mathlib.Core.Bool.{cond}
 use mathlib.Core.List.{List}
-use lib.ListN.{length, getD, set}
+use lib.ListN.{length, getD}
 use lib.Ieee.{Float, nan, binary64, ofBits, add, mul, div}
 use Rattle.loops.specs.Loop.{loop}
 use Rattle.numbers.specs.Small.{half}
+use Rattle.geom.specs.Points.{putPoint}
 use Rattle.geom.specs.Vec.{sum, scaled, fromAngle}
 use Rattle.geom.specs.declared.vec2.Vec2.{Vec2}
 use Rattle.raster.specs.Grid.{float, stockAt}
@@ -49,7 +50,7 @@ pub record Rim (n : ℕ) (w : List Float) : Type 0 where
 
 -- sample k's direction is written to w
 unfoldable pub putRim : ℕ → ℕ → List Float → List Float
-putRim n k w = set (set w (2 * k) (directionAt n k .x)) (2 * k + 1) (directionAt n k .y)
+putRim n k w = putPoint k (directionAt n k) w
 
 unfoldable pub rimmed : ℕ → List Float → List Float
 rimmed n w = loop (putRim n) 0 n w

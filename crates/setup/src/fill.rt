@@ -18,6 +18,14 @@ pub fn fill_words(u: &mut [u32], v: u32)
     }
 }
 
+pub fn fill_singles(f: &mut [f32], v: f32)
+    ensures { λ _. ⌜ now (f .exit) ≡ replicate (length (now (f .entry))) v ⌝ }
+{
+    for k in 0..f.len() {
+        f[k] = v;
+    }
+}
+
 pub fn fill_doubles(w: &mut [f64], v: f64)
     ensures { λ _. ⌜ now (w .exit) ≡ replicate (length (now (w .entry))) v ⌝ }
 {

@@ -1,5 +1,6 @@
 -- `field::round::begin` meets its contract. Assumes nothing.
 use Rattle.field.proofs.RoundLaws.{begun-all, begun-near}
+use lib.Ieee.{div, ofBits}
 use borrow.Author.Needs.{needs}
 use Rattle.field.proofs.round.begin.Statement.{statement}
 use Rattle.field.proofs.round.begin.Tie as tie
@@ -7,23 +8,24 @@ use Rattle.field.proofs.round.begin.Tie as tie
 cells-requires : tie.Need-cells-requires
 cells-requires c κs = search needs
 
-sub-fill : tie.Need-sub-fill
-sub-fill c = search needs
+sub-fill-singles : tie.Need-sub-fill-singles
+sub-fill-singles c = search needs
 
-part-fill-start : tie.Need-part-fill-start
-part-fill-start c = search needs
+part-fill-singles-start : tie.Need-part-fill-singles-start
+part-fill-singles-start c = search needs
 
-part-fill-end : tie.Need-part-fill-end
-part-fill-end c = search needs
+part-fill-singles-end : tie.Need-part-fill-singles-end
+part-fill-singles-end c = search needs
 
-fill-requires : tie.Need-fill-requires
-fill-requires c κs = search needs
+fill-singles-requires : tie.Need-fill-singles-requires
+fill-singles-requires c κs = search needs
 
 same-length : tie.Need-same-length
 same-length c = search needs
 
 returns : tie.Need-returns
-returns c = begun-all _ (c .before .before .before .before .before .before .before .before .before .pre .0) _ (c .before .before .before .before .cells .ensures) _ _ _ _ _ (c .before .before .before .before .before .if1 .taken) (c .before .before .before .before .before .before .before .before .before .pre .1 .1 .1) (c .before .before .fill .ensures)
+unfolding div ofBits
+returns c = begun-all _ (c .before .before .before .before .before .before .before .before .before .pre .0) _ (c .before .before .before .before .cells .ensures) _ _ _ _ _ (c .before .before .before .before .before .if1 .taken) (c .before .before .before .before .before .before .before .before .before .pre .1 .1 .1) (c .before .before .fill-singles .ensures)
 
 near-squares-requires : tie.Need-near-squares-requires
 near-squares-requires c κs = search needs
@@ -39,10 +41,10 @@ begin-spec =
     tie.close
     (tie.spec
     cells-requires
-    sub-fill
-    part-fill-start
-    part-fill-end
-    fill-requires
+    sub-fill-singles
+    part-fill-singles-start
+    part-fill-singles-end
+    fill-singles-requires
     same-length
     returns
     near-squares-requires
