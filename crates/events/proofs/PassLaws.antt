@@ -2,7 +2,7 @@
 use mathlib.Core.Path.{_≡_, refl, sym, ap, _∙_, subst}
 use Prim.Native.Nat.{ℕ, zero, suc, _+_, _-_}
 use native.Mathlib.Omega.{arith}
-use mathlib.Core.List.{List, [], _∷_, _++_}
+use mathlib.Core.List.{List, [], _∷_, _++_, map}
 use lib.ListN.{length, length-append}
 use lib.Ieee.{Float}
 use Rattle.loops.specs.Loop.{turns, loop}
@@ -18,9 +18,9 @@ use Rattle.events.specs.Read.{spotAt, pointAt, pointsFrom, crescentBy, p
 
 -- ---- one more point
 
-pub last-more : (p : Vec2) (ps : List Point) (q : Point) → lastOf p (spots (ps ++ (q ∷ []))) ≡ q .at
-last-more p [] q = refl
-last-more p (d ∷ ps) q = last-more (d .at) ps q
+pub last-more : {A B : Type 0} (f : B → A) (a : A) (l : List B) (x : B) → lastOf a (map f (l ++ (x ∷ []))) ≡ f x
+last-more f a [] x = refl
+last-more f a (y ∷ l) x = last-more f (f y) l x
 
 module _ (j : Job) where
   -- the stock after the later points ps of a pass
@@ -61,7 +61,7 @@ first-point o a (suc n) =
 module _ (j : Job) (ts : List Float) (first : ℕ) where
   last-from : (n : ℕ) → lastOf (spotAt ts first) (spots (pointsFrom ts (first + 1) n)) ≡ spotAt ts (first + (1 + n) - 1)
   last-from zero = ap (spotAt ts) (let z : first ≡ first + (1 + 0) - 1 = omega arith in z)
-  last-from (suc n) = last-more _ (pointsFrom ts (first + 1) n) _ ∙ ap (spotAt ts) (let z : first + 1 + n ≡ first + (1 + suc n) - 1 = omega arith in z)
+  last-from (suc n) = last-more (λ (p : Point). p .at) _ (pointsFrom ts (first + 1) n) _ ∙ ap (spotAt ts) (let z : first + 1 + n ≡ first + (1 + suc n) - 1 = omega arith in z)
 
   turns-later : (n : ℕ) (s : Stock) → turns (crescentBy (j .grid) (j .r) ts first) 1 n s ≡ laterLogged j (spotAt ts first) (pointsFrom ts (first + 1) n) s
   unfolding turns crescentBy passes cutsFrom
