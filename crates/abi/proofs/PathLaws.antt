@@ -1,5 +1,6 @@
 -- A way's parts are read back, and what `link_path` requires holds of a Setup made of its numbers. Assumes nothing.
 use mathlib.Core.Path.{_≡_, refl, sym, ap, _∙_, subst}
+use mathlib.Core.Bool.{true, false}
 use mathlib.Core.List.{List, [], _∷_}
 use Prim.Native.Nat.{ℕ, _*_, _≤_}
 use native.Mathlib.Omega.{arith}
@@ -13,13 +14,19 @@ use Rattle.setup.specs.declared.Setup.{Setup}
 use Rattle.links.specs.Path.{wallIn, Fitted}
 use Rattle.links.specs.Link.{linkPath, linkedIn}
 use Rattle.links.specs.declared.link.Route.{Route}
+use Rattle.links.specs.declared.link.Route.the-variants.{Along, Lost}
 use Rattle.abi.specs.Setup.{placed, plain}
 use Rattle.abi.specs.Links.{routeIn, PathBy}
 
-route-back : (p : Route) (out : List ℕ) → 2 ≤ length out → routeIn (p .found) (set (set out 0 (p .points)) 1 (p .work)) ≡ p
-route-back p [] h = absurd (let z : ⊥ = omega arith in z)
-route-back p (x ∷ []) h = absurd (let z : ⊥ = omega arith in z)
-route-back p (x ∷ y ∷ out) h = refl
+pub put-along : (out : List ℕ) (n work : ℕ) (r : Route) → 2 ≤ length out → r ≡ Along n work → routeIn true (set (set out 0 n) 1 work) ≡ r
+put-along [] n work r h e = absurd (let z : ⊥ = omega arith in z)
+put-along (x ∷ []) n work r h e = absurd (let z : ⊥ = omega arith in z)
+put-along (x ∷ y ∷ out) n work r h e = sym e
+
+pub put-lost : (out : List ℕ) (work : ℕ) (r : Route) → 2 ≤ length out → r ≡ Lost work → routeIn false (set out 1 work) ≡ r
+put-lost [] work r h e = absurd (let z : ⊥ = omega arith in z)
+put-lost (x ∷ []) work r h e = absurd (let z : ⊥ = omega arith in z)
+put-lost (x ∷ y ∷ out) work r h e = sym e
 
 module _ (s : Setup) (g : Grid) (region : Region) (r keep : Float) (samples : ℕ) (e : s ≡ placed g region r keep samples (s .bound)) (b : Bounds keep (s .bound)) where
   pub fitted-of : (vs : List Float) (lens m : List ℕ) (w : List Float) → Fitted (plain g region r keep samples) vs lens m w → Fitted s vs lens m w
@@ -33,11 +40,10 @@ module _ (s : Setup) (g : Grid) (region : Region) (r keep : Float) (samples : �
   pub cells-of : (k : ℕ) → 15 * (g .ny * g .nx) ≤ k → 15 * (s .grid .ny * s .grid .nx) ≤ k
   cells-of k h = subst (λ (z : Setup). 15 * (z .grid .ny * z .grid .nx) ≤ k) (sym e) h
 
-  pub path-by : (vs : List Float) (lens m allowed : List ℕ) (w : List Float) (a d : Vec2) (p : Route) (out : List ℕ) (w′ : List Float) → 2 ≤ length out
-      → linkedIn s p w′ ≡ linkPath s (wallIn s w) vs lens m allowed a d → PathBy g region r keep samples vs lens m allowed w a d (routeIn (p .found) (set (set out 0 (p .points)) 1 (p .work))) w′
-  path-by vs lens m allowed w a d p out w′ l h = record {
+  pub path-by : (vs : List Float) (lens m allowed : List ℕ) (w : List Float) (a d : Vec2) (p : Route) (w′ : List Float) (q : Route) → q ≡ p
+      → linkedIn s p w′ ≡ linkPath s (wallIn s w) vs lens m allowed a d → PathBy g region r keep samples vs lens m allowed w a d q w′
+  path-by vs lens m allowed w a d p w′ q R h = record {
     bound = s .bound;
     bounds = b;
-    is = ap (λ (q : Route). linkedIn (placed g region r keep samples (s .bound)) q w′) (route-back p out l)
-        ∙ subst (λ (z : Setup). linkedIn z p w′ ≡ linkPath z (wallIn z w) vs lens m allowed a d) e h;
+    is = ap (λ (x : Route). linkedIn (placed g region r keep samples (s .bound)) x w′) R ∙ subst (λ (z : Setup). linkedIn z p w′ ≡ linkPath z (wallIn z w) vs lens m allowed a d) e h;
   }

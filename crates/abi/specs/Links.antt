@@ -1,7 +1,7 @@
 -- Entries of the heap and ways, which C has no types for, in parts.
 use Prim.Native.Nat.{ℕ}
 use mathlib.Core.Path.{_≡_}
-use mathlib.Core.Bool.{Bool}
+use mathlib.Core.Bool.{Bool, cond}
 use mathlib.Core.List.{List}
 use lib.ListN.{getD}
 use lib.Ieee.{Float, nan}
@@ -13,6 +13,7 @@ use Rattle.raster.specs.declared.grid.Grid.{Grid}
 use Rattle.links.specs.Path.{wallIn}
 use Rattle.links.specs.Link.{linkPath, linkedIn}
 use Rattle.links.specs.declared.link.Route.{Route}
+use Rattle.links.specs.declared.link.Route.the-variants.{Along, Lost}
 use Rattle.links.specs.declared.heap.Entry.{Entry}
 use Rattle.abi.specs.Setup.{placed}
 
@@ -24,7 +25,7 @@ unfoldable pub poppedIn : List Float → ℕ → Entry
 poppedIn est node = entryOf (getD est 0 nan) node
 
 abbrev pub routeIn : Bool → List ℕ → Route
-routeIn found out = record { found = found; points = getD out 0 0; work = getD out 1 0 }
+routeIn found out = cond found (Along (getD out 0 0) (getD out 1 0)) (Lost (getD out 1 0))
 
 -- the way is that of a Setup with some bound of `keep`
 pub record PathBy (g : Grid) (region : Region) (r keep : Float) (samples : ℕ) (vs : List Float) (lens m allowed : List ℕ) (w : List Float) (a b : Vec2) (route : Route) (w′ : List Float) : Type 0 where

@@ -1,4 +1,5 @@
 // The functions of `links`.
+ghost use mathlib.Core.Path.{_≡_};
 ghost use Prim.Native.Nat.{_+_, _*_, _≤_, _<_};
 ghost use lib.ListN.{length};
 ghost use Rattle.links.specs.Heap.{entryAt, Lent, Ordered, Pushed, Popped};
@@ -14,6 +15,7 @@ use geom::region::Region;
 use geom::vec2::Vec2;
 use links::NodeNo;
 use links::heap::Entry;
+use links::link::Route;
 use raster::grid::Grid;
 
 #[no_mangle]
@@ -41,6 +43,24 @@ pub extern "C" fn links_pop(ests: &mut [f64], nodes: &mut [u32], n: usize, est: 
     let e = links::heap::pop(ests, nodes, n);
     est[0] = e.est;
     e.node.0
+}
+
+// Whether there is a way; `out` gets how many points it has, and the work.
+fn put_route(r: Route, out: &mut [u64]) -> bool
+    requires { ⌜ 2 ≤ length (now out) ⌝ }
+    ensures { λ t. ⌜ routeIn t (now (out .exit)) ≡ r ⌝ }
+{
+    match r {
+        Route::Along(points, work) => {
+            out[0] = points as u64;
+            out[1] = work as u64;
+            true
+        }
+        Route::Lost(work) => {
+            out[1] = work as u64;
+            false
+        }
+    }
 }
 
 // Whether there is a way from a to b; its points are in the workspace, `out` gets how many and the work of
@@ -86,8 +106,8 @@ pub extern "C" fn links_link_path(
     let s = made(g, Region { at, first, loops }, r, keep, samples);
     let a = Vec2 { x: ax, y: ay };
     let b = Vec2 { x: bx, y: by };
-    let p = links::link::link_path(s, vs, lens, map, allowed, u, w, a, b);
-    out[0] = p.points as u64;
-    out[1] = p.work as u64;
-    p.found
+    put_route(
+        links::link::link_path(s, vs, lens, map, allowed, u, w, a, b),
+        out,
+    )
 }

@@ -1,9 +1,9 @@
 -- What the proof of `go_and_keep` cites, over plain values. Assumes nothing.
 use mathlib.Core.Path.{_≡_, refl, sym, ap, _∙_, subst}
-use mathlib.Core.Bool.{Bool, true, false, cond}
 use mathlib.Core.List.{List}
 use Prim.Native.Nat.{ℕ, _+_, _-_, _*_, _≤_}
 use native.Mathlib.Omega.{arith}
+use native.Mathlib.Nat.{mul-pos}
 use lib.ListN.{length, take, drop}
 use lib.Ieee.{Float}
 use Rattle.loops.specs.Regions.{within}
@@ -11,7 +11,6 @@ use Rattle.loops.proofs.Cases.{by-test}
 use Rattle.loops.proofs.RegionLaws.{region-long}
 use Rattle.loops.specs.Frame.{Only}
 use Rattle.loops.proofs.FrameLaws.{only-after}
-use Rattle.geom.specs.Points.{points}
 use Rattle.geom.specs.declared.vec2.Vec2.{Vec2}
 use Rattle.geom.proofs.PointLaws.{points-length}
 use Rattle.raster.specs.Grid.{Over, Sides}
@@ -20,13 +19,14 @@ use Rattle.setup.specs.Layout.{run, allowedFrom, logFrom, pathFrom}
 use Rattle.setup.specs.declared.Setup.{Setup}
 use Rattle.setup.proofs.PartLaws.{part-is, part-long}
 use Rattle.links.specs.Path.{Way, lost, way, wallIn, pathIn, Fitted}
-use Rattle.links.specs.Link.{Linked, linkPath, linkedIn}
+use Rattle.links.specs.Link.{Linked, linkPath, linkedIn, wayBy, workOf}
 use Rattle.links.specs.declared.link.Route.{Route}
+use Rattle.links.specs.declared.link.Route.the-variants.{Along, Lost}
 use Rattle.links.proofs.WayLaws.{link-few}
 use Rattle.events.specs.Read.{spotAt}
 use Rattle.passes.specs.declared.start.Place.{Place}
 use Rattle.passes.specs.declared.start.Place.the-variants.{At, Nowhere}
-use Rattle.cutting.specs.Way.{routeOf}
+use Rattle.cutting.specs.Way.{routeOf, movesOf}
 use Rattle.cutting.specs.Piece.{spending, Left, lf, keptOf, wentOf, Lends, Listed}
 use Rattle.cutting.specs.declared.piece.State.{State}
 use Rattle.cutting.specs.declared.piece.Cut.{Cut}
@@ -36,17 +36,11 @@ abbrev Few : ℕ → Way → Type 0
 Few n lost = Unit {0}
 Few n (way ps) = length ps ≤ n
 
--- points that are counted where a way was found
-abbrev pointsOf : Bool → ℕ → ℕ
-pointsOf found k = cond found k 0
-
-counted-few : (n : ℕ) (found : Bool) (k : ℕ) (l : List Float) → Few n (cond found (way (points 0 k l)) lost) → pointsOf found k ≤ n
-counted-few n true k l h = omega (arith, points-length 0 k l, h)
-counted-few n false k l h = omega arith
-
-counted-same : (found : Bool) (k : ℕ) (l : List Float) → cond found (way (points 0 (pointsOf found k) l)) lost ≡ cond found (way (points 0 k l)) lost
-counted-same true k l = refl
-counted-same false k l = refl
+-- it has a link to each of them, or a plunge
+moves-few : (n : ℕ) (route : Route) (path : List Float) → 1 ≤ n → Few n (wayBy route path) → movesOf route ≤ n
+unfolding movesOf
+moves-few n (Along k work) path o h = omega (arith, points-length 0 k path, h)
+moves-few n (Lost work) path o h = o
 
 module _ (s : Setup) (S : Sides (s .grid)) (wall vs : List Float) (lens m allowed : List ℕ) (to : Vec2) where
   abbrev cells : ℕ
@@ -85,10 +79,10 @@ module _ (s : Setup) (vs : List Float) (lens b u : List ℕ) (w : List Float) (F
     (record { sides = F .over .sides; long = omega (arith, part-long 1 size from (from + size) b A refl (omega (arith, D .bytes))) }, omega (arith, D .words)),
   )
 
-  -- the way r to the pass's first point, laid in w′, its points counted, the state t′ that its work leaves, and where log and path begin
+  -- the way r to the pass's first point, laid in w′, the state t′ that its work leaves, and where log and path begin
   module _ (t : State) (o : List Float) (to : Vec2) (T : to ≡ spotAt o (t .triples)) (r : Route) (u′ : List ℕ) (w′ : List Float)
       (R : linkedIn s r w′ ≡ routeOf s (wallIn s w) vs lens mapPart allowedPart (t .pos) to) (U : Only 0 (15 * size) u u′)
-      (W : Only (10 * size) (23 * size) w w′) (count : ℕ) (C : count ≡ pointsOf (r .found) (r .points)) (t′ : State) (E : t′ ≡ spending (r .work) t)
+      (W : Only (10 * size) (23 * size) w w′) (work : ℕ) (N : work ≡ workOf r) (t′ : State) (E : t′ ≡ spending work t)
       (log path : ℕ) (G : log ≡ logFrom size) (P : path ≡ pathFrom size) where
     abbrev logPart : List ℕ
     logPart = take (log + size - log) (drop log u′)
@@ -111,13 +105,14 @@ module _ (s : Setup) (vs : List Float) (lens b u : List ℕ) (w : List Float) (F
     path-long : length pathPart ≡ 3 * size
     path-long = region-long path (path + 3 * size) w′ (record { start = omega arith; end = omega (arith, F .long, W .long) }) ∙ (let z : path + 3 * size - path ≡ 3 * size = omega arith in z)
 
-    count-few : count ≤ size
-    count-few =
-        let few = counted-few size (r .found) (r .points) (pathIn s w′) (subst (Few size) (sym (ap (λ (l : Linked). l .path) R)) (route-counts s (F .over .sides) (wallIn s w) vs lens mapPart allowedPart to (t .pos))) in
-        omega (arith, few, C)
+    some-cell : 1 ≤ size
+    some-cell = mul-pos (F .over .sides .high) (F .over .sides .wide)
+
+    way-few : movesOf r ≤ size
+    way-few = moves-few size r (pathIn s w′) some-cell (subst (Few size) (sym (ap (λ (l : Linked). l .path) R)) (route-counts s (F .over .sides) (wallIn s w) vs lens mapPart allowedPart to (t .pos)))
 
     pub keep-asks : (rows : List ℕ) (removed n : ℕ) → Logged (run 24 size u) removed size → Listed rows o t n → 1 ≤ n
-        → Sides (s .grid) × ((8 * size ≤ length b) × (Logged logPart removed size × ((2 * count ≤ length pathPart) × (Listed rows o t′ n × (1 ≤ n)))))
+        → Sides (s .grid) × ((8 * size ≤ length b) × (Logged logPart removed size × ((2 * movesOf r ≤ length pathPart) × (Listed rows o t′ n × (1 ≤ n)))))
     keep-asks rows removed n L K h = (
       F .over .sides,
       (
@@ -125,7 +120,7 @@ module _ (s : Setup) (vs : List Float) (lens b u : List ℕ) (w : List Float) (F
         (
           subst (λ (x : List ℕ). Logged x removed size) (sym log-is) L,
           (
-            omega (arith, path-long, count-few),
+            omega (arith, path-long, way-few),
             (subst (λ (x : State). Listed rows o x n) (sym E) (record { countable = K .countable; fit-rows = K .fit-rows; fit-triples = K .fit-triples }), h),
           ),
         ),
@@ -141,21 +136,18 @@ module _ (s : Setup) (vs : List Float) (lens b u : List ℕ) (w : List Float) (F
         ∙ ap (λ (a : List ℕ). routeOf s (wallIn s w) vs lens (run 0 size b) a (t .pos) to) allowed-is
         ∙ ap (routeOf s (wallIn s w) vs lens (run 0 size b) (run 1 size b) (t .pos)) T
 
-    way-found : cond (r .found) (way (points 0 count pathPart)) lost ≡ route .path
-    way-found =
-        ap (λ (l : List Float). cond (r .found) (way (points 0 count l)) lost) path-is
-        ∙ ap (λ (k : ℕ). cond (r .found) (way (points 0 k (pathIn s w′))) lost) C
-        ∙ counted-same (r .found) (r .points) (pathIn s w′) ∙ ap (λ (l : Linked). l .path) route-is
+    way-found : wayBy r pathPart ≡ route .path
+    way-found = ap (wayBy r) path-is ∙ ap (λ (l : Linked). l .path) route-is
 
     spent : t′ ≡ spending (route .work) t
-    spent = E ∙ ap (λ (l : Linked). spending (l .work) t) route-is
+    spent = E ∙ ap (λ (k : ℕ). spending k t) N ∙ ap (λ (l : Linked). spending (l .work) t) route-is
 
     module _ (rows : List ℕ) (removed n : ℕ) where
       abbrev keeps : Way → State → List ℕ → Left
       keeps p x l = keptOf s p removed n x (run 0 size b) (run 4 size b) l rows o .left
 
       pub went-is : (b′ rows′ : List ℕ) (o′ : List Float) (a : Cut)
-          → lf (run 0 size b′) (run 4 size b′) logPart rows′ o′ a ≡ keeps (cond (r .found) (way (points 0 count pathPart)) lost) t′ logPart
+          → lf (run 0 size b′) (run 4 size b′) logPart rows′ o′ a ≡ keeps (wayBy r pathPart) t′ logPart
           → lf (run 0 size b′) (run 4 size b′) (run 24 size u′) rows′ o′ a ≡ wentOf s (wallIn s w) vs lens (run 1 size b) t removed n (run 0 size b) (run 4 size b) (run 24 size u) rows o .left
       unfolding wentOf
       went-is b′ rows′ o′ a K =

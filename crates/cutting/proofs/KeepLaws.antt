@@ -8,12 +8,13 @@ use lib.ListN.{length, replicate, length-append}
 use lib.Dec.{eqb}
 use lib.Ieee.{Float}
 use borrow.Author.Tests.{ne-eqb}
-use Rattle.geom.specs.Points.{points}
 use Rattle.geom.specs.declared.vec2.Vec2.{Vec2}
 use Rattle.raster.specs.Log.{undone, redone}
 use Rattle.setup.specs.Layout.{run, putRun}
 use Rattle.setup.specs.declared.Setup.{Setup}
-use Rattle.links.specs.Path.{Way, way, lost}
+use Rattle.links.specs.Path.{Way}
+use Rattle.links.specs.Link.{wayBy}
+use Rattle.links.specs.declared.link.Route.{Route}
 use Rattle.events.specs.Chunk.{Chunk, cut}
 use Rattle.events.specs.Events.{withdrawn}
 use Rattle.events.specs.Lent.{allTriples, rowsFrom, gapTriples, putRows}
@@ -21,7 +22,7 @@ use Rattle.events.specs.Read.{spotAt, pointsFrom}
 use Rattle.events.proofs.PassLaws.{points-long}
 use Rattle.passes.specs.Shifts.{satAdd}
 use Rattle.passes.specs.declared.start.Place.the-variants.{At}
-use Rattle.cutting.specs.Way.{wayChunks}
+use Rattle.cutting.specs.Way.{wayChunks, movesOf}
 use Rattle.cutting.specs.Listing.{needs, refusalOf, greatestOf}
 use Rattle.cutting.specs.Piece.{sta, spending, Left, lf, WithEvents, withEvents, newOf, listedOf, keptOf, Listed, Settled}
 use Rattle.cutting.specs.declared.piece.State.{State}
@@ -38,10 +39,10 @@ left-eq {l = l} M D R O A = λ i. lf (M i) (D i) l (R i) (O i) (A i)
 pub spend-is : (t : State) (w v : ℕ) → v ≡ satAdd (t .work) w → sta (t .pos) (t .rows) (t .triples) (t .«planned_max») v ≡ spending w t
 spend-is t w v e = ap (sta (t .pos) (t .rows) (t .triples) (t .«planned_max»)) e
 
-module _ (s : Setup) (t : State) (b log : List ℕ) (path o : List Float) (rows : List ℕ) (found : Bool) (count removed n size moves : ℕ) (K : moves ≡ cond found count 1) where
+module _ (s : Setup) (t : State) (b log : List ℕ) (path o : List Float) (rows : List ℕ) (route : Route) (removed n size moves : ℕ) (K : moves ≡ movesOf route) where
   -- the way as it was found, its lead, and the chunks that are listed
   abbrev by : Way
-  by = cond found (way (points 0 count path)) lost
+  by = wayBy route path
 
   abbrev lead : Vec2
   lead = spotAt o (t .triples)
@@ -66,7 +67,7 @@ module _ (s : Setup) (t : State) (b log : List ℕ) (path o : List Float) (rows 
   left-is q e = ap (λ (z : Bool). cond z listed refused .left) e
 
   way-moves : length (wayChunks by lead) ≡ moves
-  way-moves = way-long found count path lead ∙ sym K
+  way-moves = way-long route path lead ∙ sym K
 
   module _ (no : ℕ) (N : no ≡ refusalOf (length o / 3 - t .triples) (length rows / 3 - t .rows) (replicate moves 1 ++ (n ∷ []))) where
     same-refusal : no ≡ wanted

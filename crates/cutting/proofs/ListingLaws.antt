@@ -1,6 +1,5 @@
 -- Rows and triples put one after another: the links of a way or a plunge, and the pass behind them. Assumes nothing.
 use mathlib.Core.Path.{_≡_, refl, sym, ap, _∙_, subst}
-use mathlib.Core.Bool.{Bool, true, false, cond}
 use mathlib.Core.List.{List, [], _∷_, _++_, map}
 use Prim.Native.Nat.{ℕ, zero, suc, _+_, _*_, _≤_, _<_}
 use native.Mathlib.Omega.{arith}
@@ -13,13 +12,16 @@ use Rattle.geom.specs.Region.{vertexOf}
 use Rattle.geom.specs.declared.vec2.Vec2.{Vec2}
 use Rattle.geom.proofs.PointLaws.{points-length}
 use Rattle.links.specs.Path.{Way, lost, way}
+use Rattle.links.specs.Link.{wayBy}
+use Rattle.links.specs.declared.link.Route.{Route}
+use Rattle.links.specs.declared.link.Route.the-variants.{Along, Lost}
 use Rattle.events.specs.Chunk.{Point, Chunk, plunge, link, cut}
 use Rattle.events.specs.Lent.{Row, Triple, tripleAt, pointTriple, rowAt, rowsFrom, allTriples, setRow, setTriple, gapTriples, shiftUp, putFrom, putAll, putRows}
 use Rattle.events.specs.Read.{pointsFrom, pointAt}
 use Rattle.events.proofs.LentLaws.{triples-more, rows-more, length-rows}
 use Rattle.events.proofs.PassLaws.{points-long}
 use Rattle.events.proofs.ShiftLaws.{set3-long, gap-is}
-use Rattle.cutting.specs.Way.{wayChunks}
+use Rattle.cutting.specs.Way.{wayChunks, movesOf}
 
 -- ---- one more put
 
@@ -116,19 +118,21 @@ pub plunge-put : (p : Vec2) (first row : ℕ) (t : List Float) (r : List ℕ)
 unfolding allTriples rowsFrom putFrom
 plunge-put p first row t r = (refl, refl)
 
-pub way-found : (found : Bool) (ps : List Vec2) (q : Vec2) → found ≡ true → map link ps ≡ wayChunks (cond found (way ps) lost) q
+pub way-along : (route : Route) (n work : ℕ) (path : List Float) (q : Vec2) → route ≡ Along n work → map link (points 0 n path) ≡ wayChunks (wayBy route path) q
 unfolding wayChunks
-way-found found ps q e = rw e refl
+way-along route n work path q e = rw e refl
 
-pub way-lost : (found : Bool) (ps : List Vec2) (q : Vec2) → found ≡ false → plunge q ∷ [] ≡ wayChunks (cond found (way ps) lost) q
+pub way-lost : (route : Route) (work : ℕ) (path : List Float) (q : Vec2) → route ≡ Lost work → plunge q ∷ [] ≡ wayChunks (wayBy route path) q
 unfolding wayChunks
-way-lost found ps q e = rw e refl
+way-lost route work path q e = rw e refl
 
-pub found-count : (found : Bool) (count : ℕ) → found ≡ true → cond found count 1 ≡ count
-found-count found count e = rw e refl
+pub along-moves : (route : Route) (n work : ℕ) → route ≡ Along n work → movesOf route ≡ n
+unfolding movesOf
+along-moves route n work e = rw e refl
 
-pub lost-count : (found : Bool) (count : ℕ) → found ≡ false → cond found count 1 ≡ 1
-lost-count found count e = rw e refl
+pub lost-moves : (route : Route) (work : ℕ) → route ≡ Lost work → movesOf route ≡ 1
+unfolding movesOf
+lost-moves route work e = rw e refl
 
 pub room-at : (at moves count long : ℕ) → moves ≡ count → (at + moves) * 3 ≤ long → (at + count) * 3 ≤ long
 room-at at moves count long e h = omega arith
@@ -144,10 +148,10 @@ unfolding wayChunks allTriples
 way-singles lost q = refl
 way-singles (way ps) q = links-long ps ∙ sym (length-map ps link)
 
-pub way-long : (found : Bool) (count : ℕ) (path : List Float) (q : Vec2) → length (wayChunks (cond found (way (points 0 count path)) lost) q) ≡ cond found count 1
-unfolding wayChunks
-way-long true count path q = length-map (points 0 count path) link ∙ points-length 0 count path
-way-long false count path q = refl
+pub way-long : (route : Route) (path : List Float) (q : Vec2) → length (wayChunks (wayBy route path) q) ≡ movesOf route
+unfolding wayChunks movesOf
+way-long (Along n work) path q = length-map (points 0 n path) link ∙ points-length 0 n path
+way-long (Lost work) path q = refl
 
 -- ---- the pass behind the way
 
@@ -170,20 +174,17 @@ module _ (ms : List Chunk) (moves first row n : ℕ) (t : List Float) (r : List 
       old : List ℕ
       old = putRows row (rowsFrom first ms) r
 
-pub pass-put : (found : Bool) (count : ℕ) (path : List Float) (lead : Vec2) (moves first row n : ℕ) (t t₁ t₂ : List Float) (r r₁ r₂ : List ℕ) → moves ≡ cond found count 1
-    → (first + cond found count 1 + n) * 3 ≤ length t → let ms = wayChunks (cond found (way (points 0 count path)) lost) lead in t₁ ≡ shiftUp (first * 3) (n * 3) (moves * 3) t
+pub pass-put : (route : Route) (path : List Float) (lead : Vec2) (moves first row n : ℕ) (t t₁ t₂ : List Float) (r r₁ r₂ : List ℕ) → moves ≡ movesOf route
+    → (first + movesOf route + n) * 3 ≤ length t → let ms = wayChunks (wayBy route path) lead in t₁ ≡ shiftUp (first * 3) (n * 3) (moves * 3) t
     → t₂ ≡ putAll first (allTriples ms) t₁ → r₁ ≡ putRows row (rowsFrom first ms) r → r₂ ≡ setRow (row + moves) (rowOf 4 (first + moves) n) r₁
     → (t₂ ≡ gapTriples first n (allTriples ms) t) × (r₂ ≡ putRows row (rowsFrom first (ms ++ (cut (pointsFrom t first n) ∷ []))) r)
-pass-put found count path lead moves first row n t t₁ t₂ r r₁ r₂ m fits a b d e = (
-  pass-triples ms moves first row n t r (way-singles route lead ∙ long) t₁ t₂ (omega (arith, m)) a b,
-  pass-rows ms moves first row n t r (way-singles route lead ∙ long) (pointsFrom t first n) r₁ r₂ (points-long t first n) long d e,
+pass-put route path lead moves first row n t t₁ t₂ r r₁ r₂ m fits a b d e = (
+  pass-triples ms moves first row n t r (way-singles (wayBy route path) lead ∙ long) t₁ t₂ (omega (arith, m)) a b,
+  pass-rows ms moves first row n t r (way-singles (wayBy route path) lead ∙ long) (pointsFrom t first n) r₁ r₂ (points-long t first n) long d e,
 )
   where
-    route : Way
-    route = cond found (way (points 0 count path)) lost
-
     ms : List Chunk
-    ms = wayChunks route lead
+    ms = wayChunks (wayBy route path) lead
 
     long : length ms ≡ moves
-    long = way-long found count path lead ∙ sym m
+    long = way-long route path lead ∙ sym m

@@ -21,8 +21,10 @@ use Rattle.links.specs.Path.{wallIn, Fitted}
 use Rattle.links.proofs.LinkLaws.{wall-kept, fitted-kept}
 use Rattle.events.specs.Events.{Event}
 use Rattle.passes.specs.Guide.{pointsIn}
-use Rattle.passes.specs.Attempt.{Outcome, oc}
+use Rattle.passes.specs.Attempt.{Outcome, Answered, ans, answered}
 use Rattle.passes.specs.declared.attempt.Attempt.{Attempt}
+use Rattle.passes.specs.declared.attempt.Attempt.the-variants.{Full, Worth, Nothing as Unworthy}
+use Rattle.passes.proofs.AttemptLaws.{Tells, answer-tells}
 use Rattle.cutting.specs.Tries.{Tries, ts, triesOf, Among}
 use Rattle.cutting.specs.Piece.{spending, Left, lf, wentOf, worthyOf, afterTries, cutPieceOf, Lends, Listed, Settled, Behind}
 use Rattle.cutting.specs.declared.piece.State.{State}
@@ -127,7 +129,10 @@ module _ (s : Setup) (t : State) (vs : List Float) (lens b u : List ℕ) (w o : 
     log-place = record { start = omega arith; end = omega (arith, L .words) }
 
     module _ (mp l : List ℕ) (w₁ o₁ : List Float) (a : Attempt) (M : mp ≡ lentMap) (W : Only (guideFrom size) (23 * size) w w₁)
-        (E : oc l o₁ a ≡ triesOf s may (pointsIn from m w) closed (t .pos) (t .triples) lentMap lentLog o .outcome) where
+        (E : ans l o₁ a ≡ answered (triesOf s may (pointsIn from m w) closed (t .pos) (t .triples) lentMap lentLog o .outcome)) where
+      abbrev c : Outcome
+      c = tries .outcome
+
       abbrev b₁ : List ℕ
       b₁ = putMid 0 (size - 0) b mp
 
@@ -138,18 +143,28 @@ module _ (s : Setup) (t : State) (vs : List Float) (lens b u : List ℕ) (w o : 
       b-same : b₁ ≡ b
       b-same = ap (putMid 0 (size - 0) b) M ∙ put-same 0 (size - 0) b
 
-      is-tried : oc l o₁ a ≡ tries .outcome
+      is-tried : ans l o₁ a ≡ answered c
       is-tried =
-          E ∙ ap (λ (x : List ℕ). triesOf s may (pointsIn from m w) closed (t .pos) (t .triples) x lentLog o .outcome) map-is
-          ∙ ap (λ (x : List ℕ). triesOf s may (pointsIn from m w) closed (t .pos) (t .triples) (run 0 size b) x o .outcome) log-is
+          E ∙ ap (λ (x : List ℕ). answered (triesOf s may (pointsIn from m w) closed (t .pos) (t .triples) x lentLog o .outcome)) map-is
+          ∙ ap (λ (x : List ℕ). answered (triesOf s may (pointsIn from m w) closed (t .pos) (t .triples) (run 0 size b) x o .outcome)) log-is
+
+      log-tried : l ≡ c .log
+      unfolding answered
+      log-tried = ap (λ (x : Answered). x .log) is-tried
+
+      out-tried : o₁ ≡ c .out
+      unfolding answered
+      out-tried = ap (λ (x : Answered). x .out) is-tried
+
+      tells : (x : Attempt) → a ≡ x → Tells x (c .attempt)
+      unfolding answered
+      tells x e = answer-tells x (c .attempt) (sym e ∙ ap (λ (y : Answered). y .answer) is-tried)
 
       l-long : length l ≡ length lentLog
-      l-long =
-          ap (λ (c : Outcome). length (c .log)) is-tried ∙ tries-log-long s may (pointsIn from m w) closed (t .pos) (t .triples) (run 0 size b) (run 24 size u) o ready
-          ∙ ap length (sym log-is)
+      l-long = ap length log-tried ∙ tries-log-long s may (pointsIn from m w) closed (t .pos) (t .triples) (run 0 size b) (run 24 size u) o ready ∙ ap length (sym log-is)
 
       o-long : length o₁ ≡ length o
-      o-long = ap (λ (c : Outcome). length (c .out)) is-tried ∙ tries-long s may (pointsIn from m w) closed (t .pos) (t .triples) (run 0 size b) (run 24 size u) o ready
+      o-long = ap length out-tried ∙ tries-long s may (pointsIn from m w) closed (t .pos) (t .triples) (run 0 size b) (run 24 size u) o ready
 
       log-only : Only (24 * size) (24 * size + size) u u₁
       log-only = subst (λ (z : ℕ). Only z (z + size) u u₁) G (back-only log (log + size) u log-place l l-long)
@@ -157,76 +172,86 @@ module _ (s : Setup) (t : State) (vs : List Float) (lens b u : List ℕ) (w o : 
       log-there : run 24 size u₁ ≡ l
       log-there = ap (λ (z : ℕ). within z (z + size) u₁) (sym G) ∙ back-there log (log + size) u log-place l l-long
 
-      left-same : (r : Cut) → lf (run 0 size b₁) (run 4 size b₁) (run 24 size u₁) rows o₁ r ≡ lf (run 0 size b) (run 4 size b) l rows o₁ r
-      left-same r = λ i. lf (run 0 size (b-same i)) (run 4 size (b-same i)) (log-there i) rows o₁ r
+      log-left : run 24 size u₁ ≡ c .log
+      log-left = log-there ∙ log-tried
+
+      left-same : (r : Cut) → lf (run 0 size b₁) (run 4 size b₁) (run 24 size u₁) rows o₁ r ≡ lf (run 0 size b) (run 4 size b) (c .log) rows (c .out) r
+      left-same r = λ i. lf (run 0 size (b-same i)) (run 4 size (b-same i)) (log-left i) rows (out-tried i) r
 
       frames : Settled size b b₁ × (Behind size u u₁ × Only (5 * size) (23 * size) w w₁)
       frames = (subst (Settled size b) (sym b-same) (settled-not size b (L .bytes)), (behind-log size u (L .words) u₁ log-only, W))
 
-      is-cut : afterTries s (wallIn s w) vs lens (run 1 size b) (pointsIn from m w) closed t (run 0 size b) (run 4 size b) rows (ts (oc l o₁ a) (tries .events)) .left
+      is-cut : afterTries s (wallIn s w) vs lens (run 1 size b) (pointsIn from m w) closed t (run 0 size b) (run 4 size b) rows tries .left
           ≡ cutPieceOf s (wallIn s w) vs lens (run 1 size b) (pointsIn from m w) closed t (run 0 size b) (run 4 size b) rows (run 24 size u) o .left
       unfolding cutPieceOf
-      is-cut = ap (λ (c : Outcome). afterTries s (wallIn s w) vs lens (run 1 size b) (pointsIn from m w) closed t (run 0 size b) (run 4 size b) rows (ts c (tries .events)) .left) is-tried
+      is-cut = refl
 
-      pub cut-refused : a .full ≡ true → Done b₁ u₁ w₁ o₁ rows (Refused 16)
-      cut-refused f = (left-same (Refused 16) ∙ after-full _ _ _ _ _ _ _ _ _ _ _ (oc l o₁ a) _ f ∙ is-cut, frames)
+      pub cut-refused : a ≡ Full → Done b₁ u₁ w₁ o₁ rows (Refused 16)
+      cut-refused e = (left-same (Refused 16) ∙ after-full _ _ _ _ _ _ _ _ _ _ _ c (tries .events) (tells Full e) ∙ is-cut, frames)
 
-      module _ (f : a .full ≡ false) (done : State) (D : done ≡ spending (a .work) t) where
-        pub cut-nothing : a .worth ≡ false → Done b₁ u₁ w₁ o₁ rows (Nothing done)
-        cut-nothing g = (
-          left-same (Nothing done)
-              ∙ ap (λ (z : State). lf (run 0 size b) (run 4 size b) l rows o₁ (Nothing z)) D
-              ∙ after-none _ _ _ _ _ _ _ _ _ _ _ (oc l o₁ a) _ f g
-              ∙ is-cut,
-          frames,
+      pub cut-nothing : (work : ℕ) → a ≡ Unworthy work → (done : State) → done ≡ spending work t → Done b₁ u₁ w₁ o₁ rows (Nothing done)
+      cut-nothing work e done D =
+          let f = tells (Unworthy work) e in (
+            left-same (Nothing done)
+                ∙ ap (λ (z : State). lf (run 0 size b) (run 4 size b) (c .log) rows (c .out) (Nothing z)) (D ∙ ap (λ (k : ℕ). spending k t) (f .1 .1))
+                ∙ after-none _ _ _ _ _ _ _ _ _ _ _ c (tries .events) (f .0) (f .1 .0)
+                ∙ is-cut,
+            frames,
+          )
+
+      -- a pass of n points that is worth it
+      module _ (n removed work : ℕ) (e : a ≡ Worth n removed work) (done : State) (D : done ≡ spending work t) where
+        told : Tells (Worth n removed work) (c .attempt)
+        told = tells (Worth n removed work) e
+
+        spent : done ≡ spending (c .attempt .work) t
+        spent = D ∙ ap (λ (k : ℕ). spending k t) (told .1 .1 .1 .1)
+
+        wall-same : wallIn s w₁ ≡ wallIn s w
+        wall-same = wall-kept s vs lens (run 0 size b) w F (5 * size) (23 * size) (omega arith) (omega arith) (omega arith) w₁ W
+
+        logged : Logged (c .log) removed size
+        logged = subst (λ (k : ℕ). Logged (c .log) k size) (sym (told .1 .1 .1 .0))
+            (subst (Logged (c .log) (c .attempt .removed)) map-long (tries-logged s may (pointsIn from m w) closed (t .pos) (t .triples) (run 0 size b) (run 24 size u) o ready))
+
+        room : ((t .triples + n) * 3 ≤ length o) × (2 ≤ n)
+        room = subst (λ (k : ℕ). ((t .triples + k) * 3 ≤ length o) × (2 ≤ k)) (sym (told .1 .1 .0))
+            (tries-room s may (pointsIn from m w) closed (t .pos) (t .triples) (run 0 size b) (run 24 size u) o ready (told .0) (told .1 .0))
+
+        -- what going there and keeping the pass asks
+        pub go-asks : Fitted s vs lens (run 0 size b₁) w₁ × (Lends size b₁ u₁ × (Logged (run 24 size u₁) removed size × (Listed rows o₁ done n × (1 ≤ n))))
+        go-asks = (
+          subst (λ (x : List ℕ). Fitted s vs lens (run 0 size x) w₁) (sym b-same) (fitted-kept s vs lens (run 0 size b) w F (5 * size) (23 * size) (omega arith) (omega arith) (omega arith) w₁ W),
+          (
+            record { bytes = omega (arith, L .bytes, ap length b-same); words = omega (arith, L .words, log-only .long) },
+            (
+              subst (λ (x : List ℕ). Logged x removed size) (sym log-left) logged,
+              (
+                subst (λ (z : State). Listed rows o₁ z n) (sym D) (record {
+                  countable = record { few-rows = K .countable .few-rows; few-triples = omega (arith, K .countable .few-triples, o-long) };
+                  fit-rows = K .fit-rows;
+                  fit-triples = omega (arith, room .0, o-long);
+                }),
+                omega (arith, room .1),
+              ),
+            ),
+          ),
         )
 
-        module _ (g : a .worth ≡ true) where
-          wall-same : wallIn s w₁ ≡ wallIn s w
-          wall-same = wall-kept s vs lens (run 0 size b) w F (5 * size) (23 * size) (omega arith) (omega arith) (omega arith) w₁ W
-
-          logged : Logged l (a .removed) size
-          logged = subst (Logged l (a .removed)) map-long (subst (λ (c : Outcome). Logged (c .log) (c .attempt .removed) (length (run 0 size b))) (sym is-tried)
-              (tries-logged s may (pointsIn from m w) closed (t .pos) (t .triples) (run 0 size b) (run 24 size u) o ready))
-
-          room : ((t .triples + a .points) * 3 ≤ length o) × (2 ≤ a .points)
-          room = subst (λ (c : Outcome). c .attempt .full ≡ false → c .attempt .worth ≡ true → ((t .triples + c .attempt .points) * 3 ≤ length o) × (2 ≤ c .attempt .points)) (sym is-tried)
-              (tries-room s may (pointsIn from m w) closed (t .pos) (t .triples) (run 0 size b) (run 24 size u) o ready) f g
-
-          -- what going there and keeping the pass asks
-          pub go-asks : Fitted s vs lens (run 0 size b₁) w₁ × (Lends size b₁ u₁ × (Logged (run 24 size u₁) (a .removed) size × (Listed rows o₁ done (a .points) × (1 ≤ a .points))))
-          go-asks = (
-            subst (λ (x : List ℕ). Fitted s vs lens (run 0 size x) w₁) (sym b-same) (fitted-kept s vs lens (run 0 size b) w F (5 * size) (23 * size) (omega arith) (omega arith) (omega arith) w₁ W),
+        pub cut-kept : (b₂ u₂ : List ℕ) (w₂ o₂ : List Float) (rows₂ : List ℕ) (r : Cut)
+            → lf (run 0 size b₂) (run 4 size b₂) (run 24 size u₂) rows₂ o₂ r ≡ wentOf s (wallIn s w₁) vs lens (run 1 size b₁) done removed n (run 0 size b₁) (run 4 size b₁) (run 24 size u₁) rows o₁ .left
+            → Settled size b₁ b₂ → Only 0 (15 * size) u₁ u₂ → Only (10 * size) (23 * size) w₁ w₂ → Done b₂ u₂ w₂ o₂ rows₂ r
+        cut-kept b₂ u₂ w₂ o₂ rows₂ r G S U X = (
+          G
+              ∙ (λ i. wentOf s (wall-same i) vs lens (run 1 size (b-same i)) (spent i) (told .1 .1 .1 .0 i) (told .1 .1 .0 i) (run 0 size (b-same i)) (run 4 size (b-same i)) (log-left i) rows (out-tried i) .left)
+              ∙ after-worthy _ _ _ _ _ _ _ _ _ _ _ c (tries .events) (told .0) (told .1 .0)
+              ∙ is-cut,
+          (
+            subst (λ (x : List ℕ). Settled size x b₂) b-same S,
             (
-              record { bytes = omega (arith, L .bytes, ap length b-same); words = omega (arith, L .words, log-only .long) },
-              (
-                subst (λ (x : List ℕ). Logged x (a .removed) size) (sym log-there) logged,
-                (
-                  subst (λ (z : State). Listed rows o₁ z (a .points)) (sym D) (record {
-                    countable = record { few-rows = K .countable .few-rows; few-triples = omega (arith, K .countable .few-triples, o-long) };
-                    fit-rows = K .fit-rows;
-                    fit-triples = omega (arith, room .0, o-long);
-                  }),
-                  omega (arith, room .1),
-                ),
-              ),
+              behind-search size u (L .words) u₁ log-only u₂ U,
+              only-more (5 * size) (23 * size) w place w₁ W w₂
+                  (only-wider (10 * size) (23 * size) w₁ w₂ (record { start = omega arith; end = omega (arith, F .long, W .long) }) X (5 * size) (23 * size) (omega arith) (omega arith) (omega (arith, F .long, W .long))),
             ),
-          )
-
-          pub cut-kept : (b₂ u₂ : List ℕ) (w₂ o₂ : List Float) (rows₂ : List ℕ) (r : Cut)
-              → lf (run 0 size b₂) (run 4 size b₂) (run 24 size u₂) rows₂ o₂ r ≡ wentOf s (wallIn s w₁) vs lens (run 1 size b₁) done (a .removed) (a .points) (run 0 size b₁) (run 4 size b₁) (run 24 size u₁) rows o₁ .left
-              → Settled size b₁ b₂ → Only 0 (15 * size) u₁ u₂ → Only (10 * size) (23 * size) w₁ w₂ → Done b₂ u₂ w₂ o₂ rows₂ r
-          cut-kept b₂ u₂ w₂ o₂ rows₂ r G S U X = (
-            G
-                ∙ (λ i. wentOf s (wall-same i) vs lens (run 1 size (b-same i)) (D i) (a .removed) (a .points) (run 0 size (b-same i)) (run 4 size (b-same i)) (log-there i) rows o₁ .left)
-                ∙ after-worthy _ _ _ _ _ _ _ _ _ _ _ (oc l o₁ a) _ f g
-                ∙ is-cut,
-            (
-              subst (λ (x : List ℕ). Settled size x b₂) b-same S,
-              (
-                behind-search size u (L .words) u₁ log-only u₂ U,
-                only-more (5 * size) (23 * size) w place w₁ W w₂
-                    (only-wider (10 * size) (23 * size) w₁ w₂ (record { start = omega arith; end = omega (arith, F .long, W .long) }) X (5 * size) (23 * size) (omega arith) (omega arith) (omega (arith, F .long, W .long))),
-              ),
-            ),
-          )
+          ),
+        )

@@ -11,7 +11,8 @@ use Rattle.loops.proofs.FrameLaws.{only-same}
 use Rattle.geom.specs.declared.vec2.Vec2.{Vec2}
 use Rattle.setup.specs.declared.Setup.{Setup}
 use Rattle.links.specs.Path.{lost, wallIn, Fitted}
-use Rattle.links.specs.Link.{Linked, linked, linkPath, linkedIn, noRoute}
+use Rattle.links.specs.Link.{Linked, linked, linkPath, linkedIn}
+use Rattle.links.specs.declared.link.Route.the-variants.{Lost}
 use Rattle.passes.specs.declared.start.Place.{Place}
 use Rattle.passes.specs.declared.start.Place.the-variants.{At, Nowhere}
 use Rattle.cutting.specs.Way.{routeOf}
@@ -20,11 +21,11 @@ module _ (s : Setup) (vs : List Float) (lens m allowed : List ℕ) (w : List Flo
   abbrev route : Place → Linked
   route pos = routeOf s (wallIn s w) vs lens m allowed pos to
 
-  pub route-nowhere : (pos : Place) → pos ≡ Nowhere → linkedIn s noRoute w ≡ route pos
+  pub route-nowhere : (pos : Place) → pos ≡ Nowhere → linkedIn s (Lost 0) w ≡ route pos
   unfolding routeOf
   route-nowhere pos e = sym (ap route e)
 
-  pub route-up : (pos : Place) (p : Vec2) → pos ≡ At p → s .«keep_down» ≡ false → linkedIn s noRoute w ≡ route pos
+  pub route-up : (pos : Place) (p : Vec2) → pos ≡ At p → s .«keep_down» ≡ false → linkedIn s (Lost 0) w ≡ route pos
   unfolding routeOf
   route-up pos p e d = sym (ap route e ∙ ap (λ (b : Bool). cond b (linkPath s (wallIn s w) vs lens m allowed p to) (linked lost 0)) d)
 

@@ -48,6 +48,10 @@ pub record Left : Type 0 where
 abbrev pub lf : List ℕ → List ℕ → List ℕ → List ℕ → List Float → Cut → Left
 lf m d l r o a = record { map = m; dirty = d; log = l; rows = r; out = o; answer = a }
 
+-- of n cells, map and dirty cells in the bytes b
+abbrev pub leftIn : ℕ → List ℕ → List ℕ → List ℕ → List Float → Cut → Left
+leftIn n b l r o a = lf (mapIn n b) (dirtyIn n b) l r o a
+
 -- the same with the events that led there
 pub record WithEvents : Type 0 where
   pub left : Left

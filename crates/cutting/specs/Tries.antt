@@ -16,8 +16,7 @@ use Rattle.events.specs.Read.{pointsFrom}
 use Rattle.passes.specs.Shifts.{satAdd}
 use Rattle.passes.specs.Guide.{walkOf, blendOf}
 use Rattle.passes.specs.Start.{nearOf, startOf}
-use Rattle.passes.specs.Attempt.{Outcome, att, oc, startBy}
-use Rattle.passes.specs.declared.attempt.Attempt.{Attempt}
+use Rattle.passes.specs.Attempt.{Attempted, att, Outcome, oc, startBy}
 use Rattle.passes.specs.declared.start.Place.{Place}
 
 -- ---- the starts
@@ -46,7 +45,7 @@ pub record Tries : Type 0 where
 abbrev pub ts : Outcome → List Event → Tries
 ts c es = record { outcome = c; events = es }
 
-abbrev pub worked : ℕ → Attempt → Attempt
+abbrev pub worked : ℕ → Attempted → Attempted
 worked w a = att (a .full) (a .worth) (a .points) (a .removed) (satAdd w (a .work))
 
 -- a pass that was tried, with the cells that it removed, is withdrawn unless it is worth it; without a guide none was

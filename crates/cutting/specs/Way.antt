@@ -7,6 +7,8 @@ use Rattle.geom.specs.declared.vec2.Vec2.{Vec2}
 use Rattle.setup.specs.declared.Setup.{Setup}
 use Rattle.links.specs.Path.{Way, lost, way}
 use Rattle.links.specs.Link.{Linked, linked, linkPath}
+use Rattle.links.specs.declared.link.Route.{Route}
+use Rattle.links.specs.declared.link.Route.the-variants.{Along, Lost}
 use Rattle.events.specs.Chunk.{Chunk, plunge, link}
 use Rattle.passes.specs.declared.start.Place.{Place}
 use Rattle.passes.specs.declared.start.Place.the-variants.{At, Nowhere}
@@ -20,3 +22,8 @@ routeOf s wall vs lens m allowed (At p) q = cond (s .«keep_down») (linkPath s 
 unfoldable pub wayChunks : Way → Vec2 → List Chunk
 wayChunks lost q = plunge q ∷ []
 wayChunks (way ps) q = map link ps
+
+-- how many chunks an answer's way has
+unfoldable pub movesOf : Route → ℕ
+movesOf (Along n work) = n
+movesOf (Lost work) = 1

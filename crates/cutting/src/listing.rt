@@ -1,16 +1,15 @@
 // Chunks listed in the lent rows and triples: the links of a way or a plunge, then the pass whose triples
 // stand behind the listed ones.
 ghost use mathlib.Core.Path.{_≡_};
-ghost use mathlib.Core.Bool.{cond};
 ghost use mathlib.Core.List.{_++_, _∷_, [], map};
 ghost use Prim.Native.Nat.{_+_, _*_, _≤_};
 ghost use lib.ListN.{length, replicate};
 ghost use Rattle.geom.specs.Points.{points};
-ghost use Rattle.links.specs.Path.{way, lost};
+ghost use Rattle.links.specs.Link.{wayBy};
 ghost use Rattle.events.specs.Chunk.{plunge, link, cut};
 ghost use Rattle.events.specs.Lent.{allTriples, rowsFrom, gapTriples, putAll, putRows};
 ghost use Rattle.events.specs.Read.{pointsFrom};
-ghost use Rattle.cutting.specs.Way.{wayChunks};
+ghost use Rattle.cutting.specs.Way.{wayChunks, movesOf};
 ghost use Rattle.cutting.specs.Listing.{refusalOf, greatestOf, Countable};
 use events::list::put_row;
 use events::list::put_triple;
@@ -18,6 +17,7 @@ use events::list::shift_up;
 use events::list::value;
 use geom::region::vertex;
 use geom::vec2::Vec2;
+use links::link::Route;
 
 // Document 01's refusal for `moves` chunks of one triple and then a cut of n, with so many triples and rows
 // free: 16 or 17, or 0 where all fit.
@@ -89,29 +89,37 @@ fn put_plunge(triples: &mut [f64], rows: &mut [u32], p: Vec2, first: usize, row:
     put_row(rows, row, 2, first as u32, 1);
 }
 
-// The way's chunks: links where one was found, of `count` points, else a plunge.
+// How many chunks a way has: a link to each of its points, or a plunge.
+pub fn moves_of(r: Route) -> usize
+    ensures { λ n. ⌜ n ≡ movesOf r ⌝ }
+{
+    match r {
+        Route::Along(count, _) => count,
+        Route::Lost(_) => 1,
+    }
+}
+
+// The way's chunks, its points being those of `path`.
 fn put_way(
     triples: &mut [f64],
     rows: &mut [u32],
     path: &[f64],
-    found: bool,
-    count: usize,
+    route: Route,
     lead: Vec2,
     first: usize,
     row: usize,
 )
-    requires { ⌜ 2 * count ≤ length (now path) ⌝ }
-    requires { ⌜ (first + cond found count 1) * 3 ≤ length (now triples) ⌝ }
-    requires { ⌜ (row + cond found count 1) * 3 ≤ length (now rows) ⌝ }
+    requires { ⌜ 2 * movesOf route ≤ length (now path) ⌝ }
+    requires { ⌜ (first + movesOf route) * 3 ≤ length (now triples) ⌝ }
+    requires { ⌜ (row + movesOf route) * 3 ≤ length (now rows) ⌝ }
     requires { ⌜ Countable (now rows) (now triples) ⌝ }
-    ensures { λ _. ⌜ now (triples .exit) ≡ putAll first (allTriples (wayChunks (cond found (way (points 0 count (now (path .entry)))) lost) lead)) (now (triples .entry)) ⌝ }
-    ensures { λ _. ⌜ now (rows .exit) ≡ putRows row (rowsFrom first (wayChunks (cond found (way (points 0 count (now (path .entry)))) lost) lead)) (now (rows .entry)) ⌝ }
+    ensures { λ _. ⌜ now (triples .exit) ≡ putAll first (allTriples (wayChunks (wayBy route (now (path .entry))) lead)) (now (triples .entry)) ⌝ }
+    ensures { λ _. ⌜ now (rows .exit) ≡ putRows row (rowsFrom first (wayChunks (wayBy route (now (path .entry))) lead)) (now (rows .entry)) ⌝ }
 {
-    if found {
-        put_links(triples, rows, path, count, first, row);
-        return;
+    match route {
+        Route::Along(count, _) => put_links(triples, rows, path, count, first, row),
+        Route::Lost(_) => put_plunge(triples, rows, lead, first, row),
     }
-    put_plunge(triples, rows, lead, first, row);
 }
 
 // Lists the way and then the cut whose n triples stand at `first`: they move up behind the way's.
@@ -119,22 +127,21 @@ pub fn list_pass(
     triples: &mut [f64],
     rows: &mut [u32],
     path: &[f64],
-    found: bool,
-    count: usize,
+    route: Route,
     lead: Vec2,
     first: usize,
     row: usize,
     n: usize,
 )
-    requires { ⌜ 2 * count ≤ length (now path) ⌝ }
-    requires { ⌜ (first + cond found count 1 + n) * 3 ≤ length (now triples) ⌝ }
-    requires { ⌜ (row + cond found count 1 + 1) * 3 ≤ length (now rows) ⌝ }
+    requires { ⌜ 2 * movesOf route ≤ length (now path) ⌝ }
+    requires { ⌜ (first + movesOf route + n) * 3 ≤ length (now triples) ⌝ }
+    requires { ⌜ (row + movesOf route + 1) * 3 ≤ length (now rows) ⌝ }
     requires { ⌜ Countable (now rows) (now triples) ⌝ }
-    ensures { λ _. ⌜ now (triples .exit) ≡ gapTriples first n (allTriples (wayChunks (cond found (way (points 0 count (now (path .entry)))) lost) lead)) (now (triples .entry)) ⌝ }
-    ensures { λ _. ⌜ now (rows .exit) ≡ putRows row (rowsFrom first (wayChunks (cond found (way (points 0 count (now (path .entry)))) lost) lead ++ (cut (pointsFrom (now (triples .entry)) first n) ∷ []))) (now (rows .entry)) ⌝ }
+    ensures { λ _. ⌜ now (triples .exit) ≡ gapTriples first n (allTriples (wayChunks (wayBy route (now (path .entry))) lead)) (now (triples .entry)) ⌝ }
+    ensures { λ _. ⌜ now (rows .exit) ≡ putRows row (rowsFrom first (wayChunks (wayBy route (now (path .entry))) lead ++ (cut (pointsFrom (now (triples .entry)) first n) ∷ []))) (now (rows .entry)) ⌝ }
 {
-    let moves = if found { count } else { 1 };
+    let moves = moves_of(route);
     shift_up(triples, first * 3, n * 3, moves * 3);
-    put_way(triples, rows, path, found, count, lead, first, row);
+    put_way(triples, rows, path, route, lead, first, row);
     put_row(rows, row + moves, 4, (first + moves) as u32, n as u32);
 }

@@ -1,26 +1,29 @@
 // A piece cut: the way to the first pass that is worth it, judged on the map before the pass, and the pass
 // kept.
 ghost use mathlib.Core.Path.{_≡_};
-ghost use mathlib.Core.Bool.{cond};
 ghost use Prim.Native.Nat.{_*_, _≤_};
 ghost use lib.ListN.{length};
 ghost use Rattle.loops.specs.Frame.{Only};
-ghost use Rattle.geom.specs.Points.{points};
 ghost use Rattle.raster.specs.Grid.{Sides};
 ghost use Rattle.raster.specs.Log.{undone, redone, Logged};
 ghost use Rattle.setup.specs.Layout.{most, putRun, allowedIn, dirtyIn, logIn, mapIn, costFrom, guideFrom, pathEnd};
 ghost use Rattle.setup.specs.Place.{cellsOf};
-ghost use Rattle.links.specs.Path.{way, lost, wallIn, Fitted};
+ghost use Rattle.links.specs.Path.{wallIn, Fitted};
+ghost use Rattle.links.specs.Link.{wayBy};
 ghost use Rattle.passes.specs.Guide.{pointsIn};
 ghost use Rattle.cutting.specs.Tries.{Among};
-ghost use Rattle.cutting.specs.Piece.{spending, lf, keptOf, wentOf, cutPieceOf, Lends, Listed, Settled, Behind};
+ghost use Rattle.cutting.specs.Way.{movesOf};
+ghost use Rattle.cutting.specs.Piece.{spending, leftIn, keptOf, wentOf, cutPieceOf, Lends, Listed, Settled, Behind};
 use super::listing::greatest;
 use super::listing::list_pass;
+use super::listing::moves_of;
 use super::listing::refusal;
 use super::tries::try_piece;
 use super::way::way_to;
 use events::list::spot;
 use links::link::Route;
+use links::link::work_of;
+use passes::attempt::Attempt;
 use passes::shifts::sat_add;
 use passes::start::Place;
 use setup::Setup;
@@ -71,7 +74,7 @@ fn settle(b: &mut [u8], log: &[u32], n: usize, removed: usize)
 }
 
 // Keeps the pass on trial behind its way, where all their chunks fit: `removed` cells are logged, and its n
-// points stand in the triples behind the listed ones. The way has `count` points, or is a plunge.
+// points stand in the triples behind the listed ones. The way's points are those of `path`.
 fn keep_pass(
     s: Setup,
     t: State,
@@ -80,23 +83,22 @@ fn keep_pass(
     path: &[f64],
     triples: &mut [f64],
     rows: &mut [u32],
-    found: bool,
-    count: usize,
+    route: Route,
     removed: usize,
     n: usize,
 ) -> Cut
     requires { ⌜ Sides (s .grid) ⌝ }
     requires { ⌜ 8 * cellsOf s ≤ length (now b) ⌝ }
     requires { ⌜ Logged (now log) removed (cellsOf s) ⌝ }
-    requires { ⌜ 2 * count ≤ length (now path) ⌝ }
+    requires { ⌜ 2 * movesOf route ≤ length (now path) ⌝ }
     requires { ⌜ Listed (now rows) (now triples) t n ⌝ }
     requires { ⌜ 1 ≤ n ⌝ }
-    ensures { λ r. ⌜ lf (mapIn (cellsOf s) (now (b .exit))) (dirtyIn (cellsOf s) (now (b .exit))) (now (log .entry)) (now (rows .exit)) (now (triples .exit)) r ≡ keptOf s (cond found (way (points 0 count (now (path .entry)))) lost) removed n t (mapIn (cellsOf s) (now (b .entry))) (dirtyIn (cellsOf s) (now (b .entry))) (now (log .entry)) (now (rows .entry)) (now (triples .entry)) .left ⌝ }
+    ensures { λ r. ⌜ leftIn (cellsOf s) (now (b .exit)) (now (log .entry)) (now (rows .exit)) (now (triples .exit)) r ≡ keptOf s (wayBy route (now (path .entry))) removed n t (mapIn (cellsOf s) (now (b .entry))) (dirtyIn (cellsOf s) (now (b .entry))) (now (log .entry)) (now (rows .entry)) (now (triples .entry)) .left ⌝ }
     ensures { λ _. ⌜ Settled (cellsOf s) (now (b .entry)) (now (b .exit)) ⌝ }
 {
     let first = t.triples;
     let row = t.rows;
-    let moves = if found { count } else { 1 };
+    let moves = moves_of(route);
     let no = refusal(triples.len() / 3 - first, rows.len() / 3 - row, moves, n);
     if no != 0 {
         return Cut::Refused(no);
@@ -104,7 +106,7 @@ fn keep_pass(
     let planned_max = greatest(triples, first, n, t.planned_max);
     let lead = spot(triples, first);
     let last = spot(triples, first + n - 1);
-    list_pass(triples, rows, path, found, count, lead, first, row, n);
+    list_pass(triples, rows, path, route, lead, first, row, n);
     settle(b, log, s.grid.ny * s.grid.nx, removed);
     Cut::Kept(State {
         pos: Place::At(last),
@@ -113,16 +115,6 @@ fn keep_pass(
         planned_max,
         work: t.work,
     })
-}
-
-// How many points a way has; no way has none.
-fn points_of(r: Route) -> usize
-    ensures { λ n. ⌜ n ≡ cond (r .found) (r .points) 0 ⌝ }
-{
-    if r.found {
-        return r.points;
-    }
-    0
 }
 
 // The way to the pass on trial, judged on the map before it; then the pass is kept.
@@ -144,7 +136,7 @@ fn go_and_keep(
     requires { ⌜ Logged (logIn (cellsOf s) (now u)) removed (cellsOf s) ⌝ }
     requires { ⌜ Listed (now rows) (now triples) t n ⌝ }
     requires { ⌜ 1 ≤ n ⌝ }
-    ensures { λ r. ⌜ lf (mapIn (cellsOf s) (now (b .exit))) (dirtyIn (cellsOf s) (now (b .exit))) (logIn (cellsOf s) (now (u .exit))) (now (rows .exit)) (now (triples .exit)) r ≡ wentOf s (wallIn s (now (w .entry))) (now (vs .entry)) (now (lens .entry)) (allowedIn (cellsOf s) (now (b .entry))) t removed n (mapIn (cellsOf s) (now (b .entry))) (dirtyIn (cellsOf s) (now (b .entry))) (logIn (cellsOf s) (now (u .entry))) (now (rows .entry)) (now (triples .entry)) .left ⌝ }
+    ensures { λ r. ⌜ leftIn (cellsOf s) (now (b .exit)) (logIn (cellsOf s) (now (u .exit))) (now (rows .exit)) (now (triples .exit)) r ≡ wentOf s (wallIn s (now (w .entry))) (now (vs .entry)) (now (lens .entry)) (allowedIn (cellsOf s) (now (b .entry))) t removed n (mapIn (cellsOf s) (now (b .entry))) (dirtyIn (cellsOf s) (now (b .entry))) (logIn (cellsOf s) (now (u .entry))) (now (rows .entry)) (now (triples .entry)) .left ⌝ }
     ensures { λ _. ⌜ Settled (cellsOf s) (now (b .entry)) (now (b .exit)) ⌝ }
     ensures { λ _. ⌜ Only 0 (15 * cellsOf s) (now (u .entry)) (now (u .exit)) ⌝ }
     ensures { λ _. ⌜ Only (costFrom (cellsOf s)) (pathEnd (cellsOf s)) (now (w .entry)) (now (w .exit)) ⌝ }
@@ -164,19 +156,17 @@ fn go_and_keep(
         pos,
         to,
     );
-    let count = points_of(r);
     let log = layout::log(size);
     let path = layout::path(size);
     keep_pass(
         s,
-        spend(t, r.work),
+        spend(t, work_of(r)),
         b,
         &u[log..log + size],
         &w[path..path + 3 * size],
         triples,
         rows,
-        r.found,
-        count,
+        r,
         removed,
         n,
     )
@@ -201,7 +191,7 @@ pub fn cut_piece(
     requires { ⌜ Lends (cellsOf s) (now b) (now u) ⌝ }
     requires { ⌜ Among (cellsOf s) from m ⌝ }
     requires { ⌜ Listed (now rows) (now triples) t 0 ⌝ }
-    ensures { λ r. ⌜ lf (mapIn (cellsOf s) (now (b .exit))) (dirtyIn (cellsOf s) (now (b .exit))) (logIn (cellsOf s) (now (u .exit))) (now (rows .exit)) (now (triples .exit)) r ≡ cutPieceOf s (wallIn s (now (w .entry))) (now (vs .entry)) (now (lens .entry)) (allowedIn (cellsOf s) (now (b .entry))) (pointsIn from m (now (w .entry))) closed t (mapIn (cellsOf s) (now (b .entry))) (dirtyIn (cellsOf s) (now (b .entry))) (now (rows .entry)) (logIn (cellsOf s) (now (u .entry))) (now (triples .entry)) .left ⌝ }
+    ensures { λ r. ⌜ leftIn (cellsOf s) (now (b .exit)) (logIn (cellsOf s) (now (u .exit))) (now (rows .exit)) (now (triples .exit)) r ≡ cutPieceOf s (wallIn s (now (w .entry))) (now (vs .entry)) (now (lens .entry)) (allowedIn (cellsOf s) (now (b .entry))) (pointsIn from m (now (w .entry))) closed t (mapIn (cellsOf s) (now (b .entry))) (dirtyIn (cellsOf s) (now (b .entry))) (now (rows .entry)) (logIn (cellsOf s) (now (u .entry))) (now (triples .entry)) .left ⌝ }
     ensures { λ _. ⌜ Settled (cellsOf s) (now (b .entry)) (now (b .exit)) ⌝ }
     ensures { λ _. ⌜ Behind (cellsOf s) (now (u .entry)) (now (u .exit)) ⌝ }
     ensures { λ _. ⌜ Only (guideFrom (cellsOf s)) (pathEnd (cellsOf s)) (now (w .entry)) (now (w .exit)) ⌝ }
@@ -223,14 +213,11 @@ pub fn cut_piece(
         closed,
         pos,
     );
-    if a.full {
-        return Cut::Refused(16);
-    }
-    let done = spend(t, a.work);
-    if a.worth {
-        return go_and_keep(
+    match a {
+        Attempt::Full => Cut::Refused(16),
+        Attempt::Worth(points, removed, work) => go_and_keep(
             s,
-            done,
+            spend(t, work),
             vs,
             lens,
             b,
@@ -238,9 +225,9 @@ pub fn cut_piece(
             w,
             triples,
             rows,
-            a.removed,
-            a.points,
-        );
+            removed,
+            points,
+        ),
+        Attempt::Nothing(work) => Cut::Nothing(spend(t, work)),
     }
-    Cut::Nothing(done)
 }

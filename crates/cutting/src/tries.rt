@@ -10,7 +10,7 @@ ghost use Rattle.setup.specs.Place.{allowedAt, freeAt, cellsOf};
 ghost use Rattle.links.specs.Path.{wallIn, Fitted};
 ghost use Rattle.passes.specs.Guide.{pointsIn, blendOf};
 ghost use Rattle.passes.specs.Start.{nearOf};
-ghost use Rattle.passes.specs.Attempt.{oc, startBy};
+ghost use Rattle.passes.specs.Attempt.{ans, answered, startBy};
 ghost use Rattle.cutting.specs.Tries.{startsOf, guideLong, guideOf, triesOf, Among};
 use passes::attempt::Attempt;
 use passes::attempt::try_start;
@@ -76,7 +76,7 @@ fn try_from(
     requires { ⌜ start + guideLong m closed ≤ 2 * m ⌝ }
     ensures { λ _. ⌜ now (map .exit) ≡ now (map .entry) ⌝ }
     ensures { λ _. ⌜ Only (guideFrom (cellsOf s)) (pathEnd (cellsOf s)) (now (w .entry)) (now (w .exit)) ⌝ }
-    ensures { λ r. ⌜ oc (now (log .exit)) (now (triples .exit)) r ≡ startBy s (allowedAt s (wallIn s (now (w .entry))) (now (vs .entry)) (now (lens .entry))) (blendOf s (allowedAt s (wallIn s (now (w .entry))) (now (vs .entry)) (now (lens .entry))) (freeAt s (now (map .entry))) (guideOf (pointsIn from m (now (w .entry))) closed start)) kept (now (map .entry)) (now (log .entry)) (now (triples .entry)) ⌝ }
+    ensures { λ r. ⌜ ans (now (log .exit)) (now (triples .exit)) r ≡ answered (startBy s (allowedAt s (wallIn s (now (w .entry))) (now (vs .entry)) (now (lens .entry))) (blendOf s (allowedAt s (wallIn s (now (w .entry))) (now (vs .entry)) (now (lens .entry))) (freeAt s (now (map .entry))) (guideOf (pointsIn from m (now (w .entry))) closed start)) kept (now (map .entry)) (now (log .entry)) (now (triples .entry))) ⌝ }
 {
     let n = layout::cells(s.grid);
     let at = layout::guide(n);
@@ -123,17 +123,11 @@ pub fn try_piece(
     requires { ⌜ Among (cellsOf s) from m ⌝ }
     ensures { λ _. ⌜ now (map .exit) ≡ now (map .entry) ⌝ }
     ensures { λ _. ⌜ Only (guideFrom (cellsOf s)) (pathEnd (cellsOf s)) (now (w .entry)) (now (w .exit)) ⌝ }
-    ensures { λ r. ⌜ oc (now (log .exit)) (now (triples .exit)) r ≡ triesOf s (allowedAt s (wallIn s (now (w .entry))) (now (vs .entry)) (now (lens .entry))) (pointsIn from m (now (w .entry))) closed pos kept (now (map .entry)) (now (log .entry)) (now (triples .entry)) .outcome ⌝ }
+    ensures { λ r. ⌜ ans (now (log .exit)) (now (triples .exit)) r ≡ answered (triesOf s (allowedAt s (wallIn s (now (w .entry))) (now (vs .entry)) (now (lens .entry))) (pointsIn from m (now (w .entry))) closed pos kept (now (map .entry)) (now (log .entry)) (now (triples .entry)) .outcome) ⌝ }
 {
     let near = first(w, from, m, closed, pos);
     let end = starts(closed);
-    let mut a = Attempt {
-        full: false,
-        worth: false,
-        points: 0,
-        removed: 0,
-        work: 0,
-    };
+    let mut work = 0;
     for k in 0..end {
         let start = start_of(near, m, k);
         let t = try_from(
@@ -150,19 +144,13 @@ pub fn try_piece(
             closed,
             start,
         );
-        a = Attempt {
-            full: t.full,
-            worth: t.worth,
-            points: t.points,
-            removed: t.removed,
-            work: sat_add(a.work, t.work),
-        };
-        if t.full {
-            return a;
-        }
-        if t.worth {
-            return a;
+        match t {
+            Attempt::Full => return Attempt::Full,
+            Attempt::Worth(points, removed, more) => {
+                return Attempt::Worth(points, removed, sat_add(work, more));
+            }
+            Attempt::Nothing(more) => work = sat_add(work, more),
         }
     }
-    a
+    Attempt::Nothing(work)
 }

@@ -35,16 +35,11 @@ pub fn way_to(
     ensures { λ _. ⌜ Only 0 (15 * cellsOf s) (now (u .entry)) (now (u .exit)) ⌝ }
     ensures { λ _. ⌜ Only (costFrom (cellsOf s)) (pathEnd (cellsOf s)) (now (w .entry)) (now (w .exit)) ⌝ }
 {
-    let no = Route {
-        found: false,
-        points: 0,
-        work: 0,
-    };
     let Place::At(p) = pos else {
-        return no;
+        return Route::Lost(0);
     };
     if s.keep_down {
         return link_path(s, vs, lens, map, allowed, u, w, p, to);
     }
-    no
+    Route::Lost(0)
 }

@@ -33,14 +33,14 @@ use Rattle.setup.specs.declared.Setup.{Setup}
 use Rattle.links.specs.declared.heap.Entry.{Entry}
 use Rattle.links.specs.declared.lattice.Lattice.{Lattice}
 use Rattle.links.specs.declared.search.Sought.{Sought}
-use Rattle.links.specs.declared.path.Kept.{Kept}
-use Rattle.links.specs.declared.path.Kept.the-variants.{Lost, Points}
-use Rattle.links.specs.declared.link.Route.{Route}
+use Rattle.links.specs.declared.path.Shortened.{Shortened}
+use Rattle.links.specs.declared.path.Shortened.the-variants.{Blocked, Points}
+use Rattle.links.specs.declared.link.Route.the-variants.{Along, Lost}
 use Rattle.links.specs.Lattice.{latticeOf, nodes, Laid}
 use Rattle.links.specs.Search.{Search, Outcome, seekNext, seekStep, ended, started, seekOf, cells, squaresIn, Befores, outcomeIn}
 use Rattle.links.specs.Straight.{linkClear}
-use Rattle.links.specs.Path.{Way, lost, way, nodesOf, shortenOf, wallIn, pathIn, clearIn, Fitted, keptIn}
-use Rattle.links.specs.Link.{Linked, linked, aroundOf, betweenOf, linkPath, linkedIn, beforeIn, noRoute}
+use Rattle.links.specs.Path.{Way, lost, way, nodesOf, shortenOf, wallIn, pathIn, clearIn, Fitted, shortIn}
+use Rattle.links.specs.Link.{Linked, linked, aroundOf, betweenOf, linkPath, linkedIn, beforeIn}
 use Rattle.links.proofs.LatticeLaws.{nodes-few, nodes-most}
 use Rattle.links.proofs.SeekLaws.{sound-seek}
 use Rattle.links.proofs.LayLaws.{points-front}
@@ -145,9 +145,9 @@ module _ (s : Setup) (vs : List Float) (lens m : List ℕ) (w : List Float) (F :
       pub shorten-asks : Fitted s vs lens m w₁ × ((k ≤ n) × (2 * n ≤ 3 * size))
       shorten-asks = (fitted-only s vs lens m w F w₁ laid-only, (omega arith, omega (arith, nodes-in)))
 
-      pub trace-is : (to from : Vec2) → points k (nodes l - k) r ≡ nodesOf l (take (b + n - b) (drop b u)) to → (q : Kept) (w₂ : List Float)
-          → keptIn s q w₂ ≡ shortenOf (clearIn s vs lens m w₁) (points k (n - k) (pathIn s w₁)) from → Only (20 * size) (23 * size) w₁ w₂
-          → (keptIn s q w₂ ≡ shortenOf (clearIn s vs lens m w) (nodesOf l (beforeIn l u) to) from) × Only (20 * size) (23 * size) w w₂
+      pub trace-is : (to from : Vec2) → points k (nodes l - k) r ≡ nodesOf l (take (b + n - b) (drop b u)) to → (q : Shortened) (w₂ : List Float)
+          → shortIn s q w₂ ≡ shortenOf (clearIn s vs lens m w₁) (points k (n - k) (pathIn s w₁)) from → Only (20 * size) (23 * size) w₁ w₂
+          → (shortIn s q w₂ ≡ shortenOf (clearIn s vs lens m w) (nodesOf l (beforeIn l u) to) from) × Only (20 * size) (23 * size) w w₂
       unfolding within
       trace-is to from S q w₂ X Y = (
         X ∙ ap (λ (wall : List Float). shortenOf (linkClear s wall vs lens m) (points k (n - k) (pathIn s w₁)) from) (only-before (20 * size) (23 * size) w whole w₁ laid-only 0 size (omega arith) (omega arith))
@@ -249,11 +249,11 @@ module _ (s : Setup) (vs : List Float) (lens m allowed : List ℕ) (w : List Flo
       by = ap (λ (q : Outcome). linked (cond (q .sought .found) (shortenOf (linkClear s (wallIn s w) vs lens m) (nodesOf l (q .before) to) from) lost) (q .sought .expanded * 8)) X
 
       pub around-not : o .found ≡ false
-          → (linkedIn s (record { found = false; points = 0; work = o .expanded * 8 }) wₛ ≡ aroundOf s (wallIn s w) vs lens m allowed from to l) × (Only 0 (15 * n) u u₁ × Only (10 * n) (23 * n) w wₛ)
+          → (linkedIn s (Lost (o .expanded * 8)) wₛ ≡ aroundOf s (wallIn s w) vs lens m allowed from to l) × (Only 0 (15 * n) u u₁ × Only (10 * n) (23 * n) w wₛ)
       around-not d = (sym (ap (λ (t : Bool). linked (cond t (shortenOf (linkClear s (wallIn s w) vs lens m) (nodesOf l (beforeIn l u₁) to) from) lost) (o .expanded * 8)) d) ∙ by, (words-only, wide))
 
-      module _ (d : o .found ≡ true) (k : Kept) (w₂ : List Float) (K : keptIn s k w₂ ≡ shortenOf (clearIn s vs lens m wₛ) (nodesOf l (beforeIn l u₁) to) from) (O : Only (20 * n) (23 * n) wₛ w₂) where
-        found : linked (keptIn s k w₂) (o .expanded * 8) ≡ aroundOf s (wallIn s w) vs lens m allowed from to l
+      module _ (d : o .found ≡ true) (k : Shortened) (w₂ : List Float) (K : shortIn s k w₂ ≡ shortenOf (clearIn s vs lens m wₛ) (nodesOf l (beforeIn l u₁) to) from) (O : Only (20 * n) (23 * n) wₛ w₂) where
+        found : linked (shortIn s k w₂) (o .expanded * 8) ≡ aroundOf s (wallIn s w) vs lens m allowed from to l
         found =
             ap (λ (p : Way). linked p (o .expanded * 8)) (K ∙ ap (λ (wall : List Float). shortenOf (linkClear s wall vs lens m) (nodesOf l (beforeIn l u₁) to) from) (wall-kept s vs lens m w F a e (omega arith) (omega arith) (omega arith) wₛ costs-only))
             ∙ sym (ap (λ (t : Bool). linked (cond t (shortenOf (linkClear s (wallIn s w) vs lens m) (nodesOf l (beforeIn l u₁) to) from) lost) (o .expanded * 8)) d)
@@ -264,13 +264,13 @@ module _ (s : Setup) (vs : List Float) (lens m allowed : List ℕ) (w : List Flo
             let f : Fits (20 * n) (23 * n) wₛ = record { start = omega arith; end = omega (arith, F .long, wide .long) } in
             only-more (10 * n) (23 * n) w (record { start = omega arith; end = omega (arith, F .long) }) wₛ wide w₂ (only-wider (20 * n) (23 * n) wₛ w₂ f O (10 * n) (23 * n) (omega arith) (omega arith) (omega (arith, F .long, wide .long)))
 
-        pub around-lost : k ≡ Lost
-            → (linkedIn s (record { found = false; points = 0; work = o .expanded * 8 }) w₂ ≡ aroundOf s (wallIn s w) vs lens m allowed from to l) × (Only 0 (15 * n) u u₁ × Only (10 * n) (23 * n) w w₂)
-        around-lost z = (sym (ap (λ (q : Kept). linked (keptIn s q w₂) (o .expanded * 8)) z) ∙ found, (words-only, rest))
+        pub around-lost : k ≡ Blocked
+            → (linkedIn s (Lost (o .expanded * 8)) w₂ ≡ aroundOf s (wallIn s w) vs lens m allowed from to l) × (Only 0 (15 * n) u u₁ × Only (10 * n) (23 * n) w w₂)
+        around-lost z = (sym (ap (λ (q : Shortened). linked (shortIn s q w₂) (o .expanded * 8)) z) ∙ found, (words-only, rest))
 
         pub around-found : (c : ℕ) → k ≡ Points c
-            → (linkedIn s (record { found = true; points = c; work = o .expanded * 8 }) w₂ ≡ aroundOf s (wallIn s w) vs lens m allowed from to l) × (Only 0 (15 * n) u u₁ × Only (10 * n) (23 * n) w w₂)
-        around-found c z = (sym (ap (λ (q : Kept). linked (keptIn s q w₂) (o .expanded * 8)) z) ∙ found, (words-only, rest))
+            → (linkedIn s (Along c (o .expanded * 8)) w₂ ≡ aroundOf s (wallIn s w) vs lens m allowed from to l) × (Only 0 (15 * n) u u₁ × Only (10 * n) (23 * n) w w₂)
+        around-found c z = (sym (ap (λ (q : Shortened). linked (shortIn s q w₂) (o .expanded * 8)) z) ∙ found, (words-only, rest))
 
 -- ---- the link
 
@@ -293,7 +293,7 @@ module _ (s : Setup) (vs : List Float) (lens m allowed : List ℕ) (w : List Flo
 
   module _ (t : Bool) (T : t ≡ clearIn s vs lens m w from to) where
     pub link-straight : t ≡ true → (w′ : List Float) → pathIn s w′ ≡ putPoint 0 to (pathIn s w) → Only (20 * cellsOf) (23 * cellsOf) w w′
-        → (linkedIn s (record { found = true; points = 1; work = 0 }) w′ ≡ linkPath s (wallIn s w) vs lens m allowed from to) × (Only 0 (15 * cellsOf) u u × Only (10 * cellsOf) (23 * cellsOf) w w′)
+        → (linkedIn s (Along 1 0) w′ ≡ linkPath s (wallIn s w) vs lens m allowed from to) × (Only 0 (15 * cellsOf) u u × Only (10 * cellsOf) (23 * cellsOf) w w′)
     unfolding linkPath
     link-straight e w′ P O =
         let f : Fits (20 * cellsOf) (23 * cellsOf) w = record { start = omega arith; end = omega (arith, F .long) } in
@@ -307,18 +307,18 @@ module _ (s : Setup) (vs : List Float) (lens m allowed : List ℕ) (w : List Flo
       unfolding linkPath
       by-cells x z X Z = rw (← T, e) (rw (X, Z))
 
-      pub link-no-from : (x : Found) → x ≡ cellOf (s .grid) from → x ≡ Nothing → (r : Route) → r ≡ noRoute
-          → (linkedIn s r w ≡ linkPath s (wallIn s w) vs lens m allowed from to) × (Only 0 (15 * cellsOf) u u × Only (10 * cellsOf) (23 * cellsOf) w w)
+      pub link-no-from : (x : Found) → x ≡ cellOf (s .grid) from → x ≡ Nothing
+          → (linkedIn s (Lost 0) w ≡ linkPath s (wallIn s w) vs lens m allowed from to) × (Only 0 (15 * cellsOf) u u × Only (10 * cellsOf) (23 * cellsOf) w w)
       unfolding betweenOf
-      link-no-from x X d r R =
-          (ap (λ (q : Route). linkedIn s q w) R ∙ sym (ap (λ (y : Found). betweenOf s (wallIn s w) vs lens m allowed from to y (cellOf (s .grid) to)) d) ∙ by-cells x (cellOf (s .grid) to) X refl, (none-u, none-w))
+      link-no-from x X d =
+          (sym (ap (λ (y : Found). betweenOf s (wallIn s w) vs lens m allowed from to y (cellOf (s .grid) to)) d) ∙ by-cells x (cellOf (s .grid) to) X refl, (none-u, none-w))
 
       module _ (x : Found) (X : x ≡ cellOf (s .grid) from) (i j : ℕ) (I : x ≡ At i j) (z : Found) (Z : z ≡ cellOf (s .grid) to) where
-        pub link-no-to : z ≡ Nothing → (r : Route) → r ≡ noRoute
-            → (linkedIn s r w ≡ linkPath s (wallIn s w) vs lens m allowed from to) × (Only 0 (15 * cellsOf) u u × Only (10 * cellsOf) (23 * cellsOf) w w)
+        pub link-no-to : z ≡ Nothing
+            → (linkedIn s (Lost 0) w ≡ linkPath s (wallIn s w) vs lens m allowed from to) × (Only 0 (15 * cellsOf) u u × Only (10 * cellsOf) (23 * cellsOf) w w)
         unfolding betweenOf
-        link-no-to d r R = (
-          ap (λ (q : Route). linkedIn s q w) R ∙ sym (ap (λ (y : Found). betweenOf s (wallIn s w) vs lens m allowed from to y z) I ∙ ap (betweenOf s (wallIn s w) vs lens m allowed from to (At i j)) d) ∙ by-cells x z X Z,
+        link-no-to d = (
+          sym (ap (λ (y : Found). betweenOf s (wallIn s w) vs lens m allowed from to y z) I ∙ ap (betweenOf s (wallIn s w) vs lens m allowed from to (At i j)) d) ∙ by-cells x z X Z,
           (none-u, none-w),
         )
 

@@ -21,9 +21,9 @@ use Rattle.setup.specs.Place.{Walls}
 use Rattle.setup.specs.declared.Setup.{Setup}
 use Rattle.links.specs.declared.path.Seen.{Seen}
 use Rattle.links.specs.declared.path.Seen.the-variants.{Nothing, Point}
-use Rattle.links.specs.declared.path.Kept.the-variants.{Lost, Points}
+use Rattle.links.specs.declared.path.Shortened.the-variants.{Blocked, Points}
 use Rattle.links.specs.Straight.{linkClear}
-use Rattle.links.specs.Path.{farthestOf, lost, way, onward, shortenFrom, pointIn, shortenOf, pathIn, clearIn, Fitted, keptIn}
+use Rattle.links.specs.Path.{farthestOf, lost, way, onward, shortenFrom, pointIn, shortenOf, pathIn, clearIn, Fitted, shortIn}
 
 -- ---- the farthest in view
 
@@ -229,7 +229,7 @@ module _ (s : Setup) (vs : List Float) (lens m : List ℕ) (w₀ : List Float) (
     pub shortening-fitted : Fitted s vs lens m w
     shortening-fitted = fitted-only s vs lens m w₀ F w (S .only)
 
-    pub shortening-end : end ≤ first → keptIn s (Points kept) w ≡ shortenOf (clearIn s vs lens m w₀) (points at (end - at) (pathIn s w₀)) from
+    pub shortening-end : end ≤ first → shortIn s (Points kept) w ≡ shortenOf (clearIn s vs lens m w₀) (points at (end - at) (pathIn s w₀)) from
     shortening-end h =
         short-end (clearIn s vs lens m w₀) (pointIn (points at (end - at) (pathIn s w₀)) from) (end - at) here (first - at) (points 0 kept (pathIn s w)) (end - at + 1 - kept) (omega (arith, S .few, S .high)) (omega arith)
         ∙ S .rest
@@ -245,7 +245,7 @@ module _ (s : Setup) (vs : List Float) (lens m : List ℕ) (w₀ : List Float) (
           (λ k a b. S .later (at + k) (omega arith) ∙ sym (points-get at (end - at) k (pathIn s w₀) from (omega arith)))
           ∙ ap (λ (c : ℕ). shifted at (farthestOf (clearIn s vs lens m w₀) (pointIn (points at (end - at) (pathIn s w₀)) from) here (first - at) c)) (let z : end - first ≡ end - at - (first - at) = omega arith in z)
 
-      pub shortening-lost : f ≡ Nothing → keptIn s Lost w ≡ shortenOf (clearIn s vs lens m w₀) (points at (end - at) (pathIn s w₀)) from
+      pub shortening-lost : f ≡ Nothing → shortIn s Blocked w ≡ shortenOf (clearIn s vs lens m w₀) (points at (end - at) (pathIn s w₀)) from
       shortening-lost e =
           short-lost (clearIn s vs lens m w₀) (pointIn (points at (end - at) (pathIn s w₀)) from) (end - at) here (first - at) (points 0 kept (pathIn s w)) (end - at + 1 - kept) (omega (arith, S .low))
           (unshift-none at _ (sym seen ∙ e))

@@ -24,7 +24,7 @@ use Rattle.setup.specs.declared.Setup.{Setup}
 use Rattle.links.specs.declared.lattice.Lattice.{Lattice}
 use Rattle.links.specs.declared.path.Seen.{Seen}
 use Rattle.links.specs.declared.path.Seen.the-variants.{Nothing as Unseen, Point}
-use Rattle.links.specs.declared.link.Route.{Route}
+use Rattle.links.specs.declared.link.Route.the-variants.{Along}
 use Rattle.links.specs.Lattice.{latticeOf, nodes, centreOf, Laid}
 use Rattle.links.specs.Search.{noNode, seekOf}
 use Rattle.links.specs.Straight.{linkClear}
@@ -163,15 +163,15 @@ module _ (s : Setup) (S : Sides (s .grid)) (wall vs : List Float) (lens m allowe
   link-few ps e = subst (IsWay clear a b n) e link-is-way .1
 
   -- what `link_path` answers: so many points, in the path's part
-  module _ (r : Route) (w : List Float) (R : linkedIn s r w ≡ linkPath s wall vs lens m allowed a b) (f : r .found ≡ true) where
-    pub route-way : linkPath s wall vs lens m allowed a b .path ≡ way (points 0 (r .points) (pathIn s w))
-    route-way = sym (ap (λ (l : Linked). l .path) R) ∙ ap (λ (t : Bool). cond t (way (points 0 (r .points) (pathIn s w))) lost) f
+  module _ (k work : ℕ) (w : List Float) (R : linkedIn s (Along k work) w ≡ linkPath s wall vs lens m allowed a b) where
+    pub route-way : linkPath s wall vs lens m allowed a b .path ≡ way (points 0 k (pathIn s w))
+    route-way = sym (ap (λ (l : Linked). l .path) R)
 
-    pub route-chained : Chained clear a (points 0 (r .points) (pathIn s w)) b
+    pub route-chained : Chained clear a (points 0 k (pathIn s w)) b
     route-chained = link-chained _ route-way
 
-    pub route-few : r .points ≤ n
-    route-few = omega (arith, points-length 0 (r .points) (pathIn s w), link-few _ route-way)
+    pub route-few : k ≤ n
+    route-few = omega (arith, points-length 0 k (pathIn s w), link-few _ route-way)
 
 -- a feed that is clear is the way, and costs no search
 pub link-straight-way : (s : Setup) (wall vs : List Float) (lens m allowed : List ℕ) (a b : Vec2) → linkClear s wall vs lens m a b ≡ true → linkPath s wall vs lens m allowed a b ≡ linked (way (b ∷ [])) 0

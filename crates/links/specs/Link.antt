@@ -1,5 +1,5 @@
 -- A way of straight feeds through cleared space, `link_path` of adaptive.rs: straight, or over the lattice. It is a function of the job and the map alone. Definitions only.
-use mathlib.Core.Bool.{false, cond}
+use mathlib.Core.Bool.{cond}
 use mathlib.Core.List.{List, [], _∷_}
 use Prim.Native.Nat.{ℕ, _*_}
 use lib.ListN.{take}
@@ -13,6 +13,7 @@ use Rattle.raster.specs.declared.grid.Found.the-variants.{Nothing, At}
 use Rattle.setup.specs.declared.Setup.{Setup}
 use Rattle.links.specs.declared.lattice.Lattice.{Lattice}
 use Rattle.links.specs.declared.link.Route.{Route}
+use Rattle.links.specs.declared.link.Route.the-variants.{Along, Lost}
 use Rattle.links.specs.Lattice.{latticeOf, nodes}
 use Rattle.links.specs.Search.{seekOf, wordsIn}
 use Rattle.links.specs.Straight.{linkClear}
@@ -42,13 +43,18 @@ unfoldable pub linkPath : Setup → List Float → List Float → List ℕ → L
 linkPath s wall vs lens m allowed a b =
     cond (linkClear s wall vs lens m a b) (linked (way (b ∷ [])) 0) (betweenOf s wall vs lens m allowed a b (cellOf (s .grid) a) (cellOf (s .grid) b))
 
--- the answer, and its points in the path's part of the workspace
+-- the way that an answer tells of, its points in the path's part of the workspace
+abbrev pub wayBy : Route → List Float → Way
+wayBy (Along n work) path = way (points 0 n path)
+wayBy (Lost work) path = lost
+
+abbrev pub workOf : Route → ℕ
+workOf (Along n work) = work
+workOf (Lost work) = work
+
 abbrev pub linkedIn : Setup → Route → List Float → Linked
-linkedIn s r w = linked (cond (r .found) (way (points 0 (r .points) (pathIn s w))) lost) (r .work)
+linkedIn s r w = linked (wayBy r (pathIn s w)) (workOf r)
 
 -- the nodes before, in the u32 of the search
 abbrev pub beforeIn : Lattice → List ℕ → List ℕ
 beforeIn l u = take (nodes l) (wordsIn l u)
-
-abbrev pub noRoute : Route
-noRoute = record { found = false; points = 0; work = 0 }

@@ -18,8 +18,8 @@ use Rattle.links.specs.declared.NodeNo.{NodeNo}
 use Rattle.links.specs.declared.lattice.Lattice.{Lattice}
 use Rattle.links.specs.declared.path.Seen.{Seen}
 use Rattle.links.specs.declared.path.Seen.the-variants.{Nothing, Point}
-use Rattle.links.specs.declared.path.Kept.{Kept}
-use Rattle.links.specs.declared.path.Kept.the-variants.{Lost, Points}
+use Rattle.links.specs.declared.path.Shortened.{Shortened}
+use Rattle.links.specs.declared.path.Shortened.the-variants.{Blocked, Points}
 use Rattle.links.specs.Lattice.{nodes, centreOf}
 use Rattle.links.specs.Search.{noNode}
 use Rattle.links.specs.Straight.{linkClear}
@@ -97,6 +97,6 @@ pub record Fitted (s : Setup) (vs : List Float) (lens m : List ℕ) (w : List Fl
   pub long : 32 * cellsOf s + 4096 ≤ length w
 
 -- the way that was kept, in the path's part
-abbrev pub keptIn : Setup → Kept → List Float → Way
-keptIn s Lost w = lost
-keptIn s (Points n) w = way (points 0 n (pathIn s w))
+abbrev pub shortIn : Setup → Shortened → List Float → Way
+shortIn s Blocked w = lost
+shortIn s (Points n) w = way (points 0 n (pathIn s w))

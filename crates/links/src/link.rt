@@ -9,24 +9,32 @@ ghost use Rattle.setup.specs.Layout.{costFrom, pathEnd, pathFrom};
 ghost use Rattle.setup.specs.Place.{cellsOf};
 ghost use Rattle.links.specs.Lattice.{nodes, Laid};
 ghost use Rattle.links.specs.Search.{seekOf, cells, Befores, outcomeIn};
-ghost use Rattle.links.specs.Path.{nodesOf, shortenOf, wallIn, clearIn, Fitted, keptIn};
-ghost use Rattle.links.specs.Link.{aroundOf, linkPath, linkedIn, beforeIn, noRoute};
+ghost use Rattle.links.specs.Path.{nodesOf, shortenOf, wallIn, clearIn, Fitted, shortIn};
+ghost use Rattle.links.specs.Link.{aroundOf, linkPath, linkedIn, workOf, beforeIn};
 use super::lattice::Lattice;
 use super::lattice::lattice_of;
 use super::lattice::limit_of;
 use super::lattice::nodes_of;
-use super::path::Kept;
+use super::path::Shortened;
 use super::search::Sought;
 use geom::vec2::Vec2;
 use raster::grid::Found;
 use setup::Setup;
 use setup::layout;
 
-// How many points the way has, and the work of its search.
-pub struct Route {
-    pub found: bool,
-    pub points: usize,
-    pub work: usize,
+// A way of so many points, or none; and the work of its search.
+pub enum Route {
+    Along(usize, usize),
+    Lost(usize),
+}
+
+pub fn work_of(r: Route) -> usize
+    ensures { λ n. ⌜ n ≡ workOf r ⌝ }
+{
+    match r {
+        Route::Along(_, work) => work,
+        Route::Lost(work) => work,
+    }
 }
 
 // The squares of the distance to stock, then the search.
@@ -57,13 +65,13 @@ fn trace(
     l: Lattice,
     from: Vec2,
     to: Vec2,
-) -> Kept
+) -> Shortened
     requires { ⌜ Fitted s (now vs) (now lens) (now map) (now w) ⌝ }
     requires { ⌜ Laid l ⌝ }
     requires { ⌜ l .grid ≡ s .grid ⌝ }
     requires { ⌜ 15 * cells l ≤ length (now u) ⌝ }
     requires { ⌜ Befores (nodes l) (beforeIn l (now u)) ⌝ }
-    ensures { λ r. ⌜ keptIn s r (now (w .exit)) ≡ shortenOf (clearIn s (now (vs .entry)) (now (lens .entry)) (now (map .entry)) (now (w .entry))) (nodesOf l (beforeIn l (now (u .entry))) to) from ⌝ }
+    ensures { λ r. ⌜ shortIn s r (now (w .exit)) ≡ shortenOf (clearIn s (now (vs .entry)) (now (lens .entry)) (now (map .entry)) (now (w .entry))) (nodesOf l (beforeIn l (now (u .entry))) to) from ⌝ }
     ensures { λ _. ⌜ Only (pathFrom (cellsOf s)) (pathEnd (cellsOf s)) (now (w .entry)) (now (w .exit)) ⌝ }
 {
     let n = nodes_of(l);
@@ -104,35 +112,12 @@ fn around(
     let o = search(l, map, allowed, u, &mut w[a..e]);
     let work = o.expanded * 8;
     if !o.found {
-        return Route {
-            found: false,
-            points: 0,
-            work,
-        };
+        return Route::Lost(work);
     }
     let k = trace(s, vs, lens, map, u, w, l, from, to);
     match k {
-        Kept::Lost => Route {
-            found: false,
-            points: 0,
-            work,
-        },
-        Kept::Points(points) => Route {
-            found: true,
-            points,
-            work,
-        },
-    }
-}
-
-// No way and no search.
-fn nowhere() -> Route
-    ensures { λ r. ⌜ r ≡ noRoute ⌝ }
-{
-    Route {
-        found: false,
-        points: 0,
-        work: 0,
+        Shortened::Blocked => Route::Lost(work),
+        Shortened::Points(points) => Route::Along(points, work),
     }
 }
 
@@ -158,20 +143,16 @@ pub fn link_path(
 {
     if super::path::clear(s, vs, lens, map, w, from, to) {
         super::path::keep(s, w, 0, to);
-        return Route {
-            found: true,
-            points: 1,
-            work: 0,
-        };
+        return Route::Along(1, 0);
     }
     let g = s.grid;
     let x = raster::grid::cell_of(g, from);
     let Found::At(i, j) = x else {
-        return nowhere();
+        return Route::Lost(0);
     };
     let z = raster::grid::cell_of(g, to);
     let Found::At(p, q) = z else {
-        return nowhere();
+        return Route::Lost(0);
     };
     let l = lattice_of(s, i, j, p, q);
     around(s, vs, lens, map, allowed, u, w, l, from, to)

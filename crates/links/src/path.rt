@@ -11,7 +11,7 @@ ghost use Rattle.setup.specs.Layout.{pathEnd, pathFrom};
 ghost use Rattle.setup.specs.Place.{cellsOf};
 ghost use Rattle.links.specs.Lattice.{nodes, Laid};
 ghost use Rattle.links.specs.Search.{Befores};
-ghost use Rattle.links.specs.Path.{nodesOf, farthestOf, shortenOf, pathIn, clearIn, Fitted, keptIn};
+ghost use Rattle.links.specs.Path.{nodesOf, farthestOf, shortenOf, pathIn, clearIn, Fitted, shortIn};
 use super::NodeNo;
 use super::lattice::Lattice;
 use super::lattice::centre;
@@ -31,8 +31,8 @@ pub enum Seen {
 }
 
 // How many points a shortened path has.
-pub enum Kept {
-    Lost,
+pub enum Shortened {
+    Blocked,
     Points(usize),
 }
 
@@ -141,11 +141,11 @@ pub fn shorten(
     from: Vec2,
     at: usize,
     end: usize,
-) -> Kept
+) -> Shortened
     requires { ⌜ Fitted s (now vs) (now lens) (now map) (now w) ⌝ }
     requires { ⌜ at ≤ end ⌝ }
     requires { ⌜ 2 * end ≤ 3 * cellsOf s ⌝ }
-    ensures { λ r. ⌜ keptIn s r (now (w .exit)) ≡ shortenOf (clearIn s (now (vs .entry)) (now (lens .entry)) (now (map .entry)) (now (w .entry))) (points at (end - at) (pathIn s (now (w .entry)))) from ⌝ }
+    ensures { λ r. ⌜ shortIn s r (now (w .exit)) ≡ shortenOf (clearIn s (now (vs .entry)) (now (lens .entry)) (now (map .entry)) (now (w .entry))) (points at (end - at) (pathIn s (now (w .entry)))) from ⌝ }
     ensures { λ _. ⌜ Only (pathFrom (cellsOf s)) (pathEnd (cellsOf s)) (now (w .entry)) (now (w .exit)) ⌝ }
 {
     let mut here = from;
@@ -154,12 +154,12 @@ pub fn shorten(
     while first < end {
         let f = farthest(s, vs, lens, map, w, here, first, end);
         let Seen::Point(k) = f else {
-            return Kept::Lost;
+            return Shortened::Blocked;
         };
         here = point(s, w, k);
         keep(s, w, kept, here);
         kept = kept + 1;
         first = k + 1;
     }
-    Kept::Points(kept)
+    Shortened::Points(kept)
 }

@@ -21,7 +21,8 @@ use Rattle.events.specs.Chunk.{Point, Chunk, Entry, Job}
 use Rattle.events.specs.Events.{state, step, withdrawn}
 use Rattle.passes.specs.Simulate.{Pass, simulateOf}
 use Rattle.passes.specs.Guide.{blendOf, walkOf, flat, pointsIn, bentOr, isSome}
-use Rattle.passes.specs.Attempt.{Outcome, att, oc, outcomeOf, startBy, Spread}
+use Rattle.passes.specs.declared.attempt.Attempt.the-variants.{Nothing}
+use Rattle.passes.specs.Attempt.{answerOf, Answered, ans, answered, outcomeOf, startBy, Spread}
 use Rattle.passes.specs.Tried.{jobAt, Measured}
 use Rattle.passes.proofs.LayLaws.{flat-length, points-flat, walk-length, part-half, part-some}
 use Rattle.passes.proofs.BlendLaws.{blend-begins, blend-length}
@@ -101,18 +102,18 @@ module _ (s : Setup) (vs : List Float) (lens : List ℕ) (w : List Float) (cells
     by-blend none kept l o e = never (sym e)
     by-blend (some q) kept l o e = refl
 
-    pub start-tried : (kept : ℕ) (l : List ℕ) (o : List Float) → true ≡ isSome blend → (c : Outcome)
-        → c ≡ outcomeOf s (allowedAt s (within 0 cells w₁) vs lens) (points 0 (length (take (at + 2 * n - at) (drop at w₁)) / 2) (take (at + 2 * n - at) (drop at w₁))) kept mp l o
-        → c ≡ startBy s (allowedAt s (within 0 cells w) vs lens) blend kept mp l o
+    pub start-tried : (kept : ℕ) (l : List ℕ) (o : List Float) → true ≡ isSome blend → (c : Answered)
+        → c ≡ answered (outcomeOf s (allowedAt s (within 0 cells w₁) vs lens) (points 0 (length (take (at + 2 * n - at) (drop at w₁)) / 2) (take (at + 2 * n - at) (drop at w₁))) kept mp l o)
+        → c ≡ answered (startBy s (allowedAt s (within 0 cells w) vs lens) blend kept mp l o)
     start-tried kept l o e c d =
-        d ∙ ap (λ (q : List Vec2). outcomeOf s (allowedAt s (within 0 cells w₁) vs lens) q kept mp l o) guide-is
-        ∙ ap (λ (v : List Float). outcomeOf s (allowedAt s v vs lens) (bentOr trod blend) kept mp l o) wall-same
-        ∙ by-blend blend kept l o e
+        d ∙ ap (λ (q : List Vec2). answered (outcomeOf s (allowedAt s (within 0 cells w₁) vs lens) q kept mp l o)) guide-is
+        ∙ ap (λ (v : List Float). answered (outcomeOf s (allowedAt s v vs lens) (bentOr trod blend) kept mp l o)) wall-same
+        ∙ ap answered (by-blend blend kept l o e)
 
-  none-by : (b : Option (List Vec2)) (kept : ℕ) (l : List ℕ) (o : List Float) → false ≡ isSome b → oc l o (att false false 0 0 0) ≡ startBy s (allowedAt s (within 0 cells w) vs lens) b kept mp l o
-  unfolding startBy isSome
+  none-by : (b : Option (List Vec2)) (kept : ℕ) (l : List ℕ) (o : List Float) → false ≡ isSome b → ans l o (Nothing 0) ≡ answered (startBy s (allowedAt s (within 0 cells w) vs lens) b kept mp l o)
+  unfolding startBy isSome answered answerOf
   none-by none kept l o e = refl
   none-by (some q) kept l o e = never e
 
-  pub start-none : (kept : ℕ) (l : List ℕ) (o : List Float) → false ≡ isSome blend → oc l o (att false false 0 0 0) ≡ startBy s (allowedAt s (within 0 cells w) vs lens) blend kept mp l o
+  pub start-none : (kept : ℕ) (l : List ℕ) (o : List Float) → false ≡ isSome blend → ans l o (Nothing 0) ≡ answered (startBy s (allowedAt s (within 0 cells w) vs lens) blend kept mp l o)
   start-none kept l o e = none-by blend kept l o e

@@ -14,18 +14,42 @@ use Rattle.passes.specs.Simulate.{Pass, simulateOf}
 use Rattle.passes.specs.Guide.{Ahead}
 use Rattle.passes.specs.Worth.{spotsFrom, worthOf}
 use Rattle.passes.specs.declared.attempt.Attempt.{Attempt}
+use Rattle.passes.specs.declared.attempt.Attempt.the-variants.{Full, Worth, Nothing}
 
-abbrev pub att : Bool → Bool → ℕ → ℕ → ℕ → Attempt
+-- a guide tried: whether the triples of its pass do not fit, whether the pass is to be kept, its points, the cells that it removes, and the work
+pub record Attempted : Type 0 where
+  pub full : Bool
+  pub worth : Bool
+  pub points : ℕ
+  pub removed : ℕ
+  pub work : ℕ
+
+abbrev pub att : Bool → Bool → ℕ → ℕ → ℕ → Attempted
 att full worth points removed work = record { full = full; worth = worth; points = points; removed = removed; work = work }
 
--- the log that undoes the pass and clears it again, its triples, and the answer; the map is as it was
+-- the log that undoes the pass and clears it again, its triples, and the rest; the map is as it was
 pub record Outcome : Type 0 where
   pub log : List ℕ
   pub out : List Float
-  pub attempt : Attempt
+  pub attempt : Attempted
 
-abbrev pub oc : List ℕ → List Float → Attempt → Outcome
+abbrev pub oc : List ℕ → List Float → Attempted → Outcome
 oc l o a = record { log = l; out = o; attempt = a }
+
+-- what is answered of it: nothing of a pass that is not to be kept but its work
+unfoldable pub answerOf : Attempted → Attempt
+answerOf a = cond (a .full) Full (cond (a .worth) (Worth (a .points) (a .removed) (a .work)) (Nothing (a .work)))
+
+pub record Answered : Type 0 where
+  pub log : List ℕ
+  pub out : List Float
+  pub answer : Attempt
+
+abbrev pub ans : List ℕ → List Float → Attempt → Answered
+ans l o a = record { log = l; out = o; answer = a }
+
+unfoldable pub answered : Outcome → Answered
+answered c = ans (c .log) (c .out) (answerOf (c .attempt))
 
 unfoldable pub judgedBy : Float → ℕ → Pass → Outcome
 judgedBy cell kept p =

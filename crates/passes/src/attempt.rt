@@ -11,19 +11,18 @@ ghost use Rattle.raster.specs.Contact.{samplesOf, Rim};
 ghost use Rattle.setup.specs.Place.{Walls, allowedAt, freeAt};
 ghost use Rattle.passes.specs.Simulate.{Usable};
 ghost use Rattle.passes.specs.Guide.{walkOf, pointsIn, flat, bentOr, blendOf};
-ghost use Rattle.passes.specs.Attempt.{oc, outcomeOf, startBy, Spread};
+ghost use Rattle.passes.specs.Attempt.{ans, answered, outcomeOf, startBy, Spread};
 use super::guide::lay_guide;
 use super::trial::simulate;
 use super::worth::worth;
 use setup::Setup;
 
-// `full` where the triples do not fit; `worth` where the pass is to be kept.
-pub struct Attempt {
-    pub full: bool,
-    pub worth: bool,
-    pub points: usize,
-    pub removed: usize,
-    pub work: usize,
+// What became of a guide: the triples of its pass do not fit; a pass of so many points that is to be kept,
+// the cells that it removes and the work; or no such pass, and the work.
+pub enum Attempt {
+    Full,
+    Worth(usize, usize, usize),
+    Nothing(usize),
 }
 
 pub fn try_guide(
@@ -42,29 +41,19 @@ pub fn try_guide(
     requires { ⌜ Rim (samplesOf (s .samples)) (now rim) ⌝ }
     requires { ⌜ Usable s (now map) (now log) (now guide) ⌝ }
     ensures { λ _. ⌜ now (map .exit) ≡ now (map .entry) ⌝ }
-    ensures { λ r. ⌜ oc (now (log .exit)) (now (triples .exit)) r ≡ outcomeOf s (allowedAt s (now (wall .entry)) (now (vs .entry)) (now (lens .entry))) (points 0 (length (now (guide .entry)) / 2) (now (guide .entry))) kept (now (map .entry)) (now (log .entry)) (now (triples .entry)) ⌝ }
+    ensures { λ r. ⌜ ans (now (log .exit)) (now (triples .exit)) r ≡ answered (outcomeOf s (allowedAt s (now (wall .entry)) (now (vs .entry)) (now (lens .entry))) (points 0 (length (now (guide .entry)) / 2) (now (guide .entry))) kept (now (map .entry)) (now (log .entry)) (now (triples .entry))) ⌝ }
 {
     let g = s.grid;
     let cell = g.cell;
     let t = simulate(s, wall, vs, lens, rim, guide, map, log, triples, kept);
     raster::log::undo(map, log, t.removed);
     if t.full {
-        return Attempt {
-            full: true,
-            worth: false,
-            points: t.points,
-            removed: t.removed,
-            work: t.work,
-        };
+        return Attempt::Full;
     }
-    let good = worth(cell, triples, kept, t.points, t.removed);
-    Attempt {
-        full: false,
-        worth: good,
-        points: t.points,
-        removed: t.removed,
-        work: t.work,
+    if worth(cell, triples, kept, t.points, t.removed) {
+        return Attempt::Worth(t.points, t.removed, t.work);
     }
+    Attempt::Nothing(t.work)
 }
 
 // A piece tried from its point `start` on: its guide of n points is laid at `at`, and tried where a way out
@@ -91,7 +80,7 @@ pub fn try_start(
     requires { ⌜ Ready (st (now map) (now log) 0) ⌝ }
     ensures { λ _. ⌜ now (map .exit) ≡ now (map .entry) ⌝ }
     ensures { λ _. ⌜ now (w .exit) ≡ put at (at + 2 * n) (flat (bentOr (walkOf (pointsIn from m (now (w .entry))) start n) (blendOf s (allowedAt s (within 0 cells (now (w .entry))) (now (vs .entry)) (now (lens .entry))) (freeAt s (now (map .entry))) (walkOf (pointsIn from m (now (w .entry))) start n)))) (now (w .entry)) ⌝ }
-    ensures { λ r. ⌜ oc (now (log .exit)) (now (triples .exit)) r ≡ startBy s (allowedAt s (within 0 cells (now (w .entry))) (now (vs .entry)) (now (lens .entry))) (blendOf s (allowedAt s (within 0 cells (now (w .entry))) (now (vs .entry)) (now (lens .entry))) (freeAt s (now (map .entry))) (walkOf (pointsIn from m (now (w .entry))) start n)) kept (now (map .entry)) (now (log .entry)) (now (triples .entry)) ⌝ }
+    ensures { λ r. ⌜ ans (now (log .exit)) (now (triples .exit)) r ≡ answered (startBy s (allowedAt s (within 0 cells (now (w .entry))) (now (vs .entry)) (now (lens .entry))) (blendOf s (allowedAt s (within 0 cells (now (w .entry))) (now (vs .entry)) (now (lens .entry))) (freeAt s (now (map .entry))) (walkOf (pointsIn from m (now (w .entry))) start n)) kept (now (map .entry)) (now (log .entry)) (now (triples .entry))) ⌝ }
 {
     if lay_guide(s, vs, lens, map, w, cells, from, m, start, n, at) {
         let e = at + 2 * n;
@@ -109,11 +98,5 @@ pub fn try_start(
             kept,
         );
     }
-    Attempt {
-        full: false,
-        worth: false,
-        points: 0,
-        removed: 0,
-        work: 0,
-    }
+    Attempt::Nothing(0)
 }

@@ -1,22 +1,18 @@
 -- `cutting::piece::keep_pass` meets its contract. Assumes nothing.
-use mathlib.Core.Path.{_≡_, sym, _∙_}
-use mathlib.Core.Bool.{cond}
-use mathlib.Core.Logic.{⊎-elim}
 use Prim.Native.Nat.{_+_, _*_, _≤_}
 use native.Mathlib.Omega.{arith}
 use lib.ListN.{length}
-use Rattle.cutting.proofs.ListingLaws.{found-count, lost-count}
 use Rattle.cutting.proofs.SettleLaws.{settled-not}
 use Rattle.cutting.proofs.KeepLaws.{keep-refused, keep-fits, keep-listed}
 use borrow.Author.Needs.{needs}
 use Rattle.cutting.proofs.piece.keep_pass.Statement.{statement}
 use Rattle.cutting.proofs.piece.keep_pass.Tie as tie
 
-moves-are : (c : tie.Joined1) → c .if1 .moves ≡ cond (c .before .before .before .before .before .before .args .found) (c .before .before .before .before .before .before .args .count) 1
-moves-are c = ⊎-elim (λ w. w .1 ∙ sym (found-count _ _ (w .0 .taken))) (λ w. w .1 ∙ sym (lost-count _ _ (w .0 .left))) (c .if1 .came)
+fits : (c : tie.Else1) → let s = c .before .before .before .before .before .before .before .before in let m = c .before .before .moves-of .result in ((s .args .t .triples + m + s .args .n) * 3 ≤ length (s .args .triples .now)) × ((s .args .t .rows + m + 1) * 3 ≤ length (s .args .rows .now))
+fits c = let s = c .before .before .before .before .before .before .before .before in keep-fits (s .args .s) (s .args .t) (s .args .b .now) (s .args .log .now) (s .args .path .now) _ _ (s .args .route) (s .args .removed) _ 0 _ (c .before .before .moves-of .ensures) _ (c .before .refusal .ensures) (c .if1 .left) (s .pre .1 .1 .1 .1 .0)
 
-fits : (c : tie.Else2) → let s = c .before .before .before .before .before .before .before .before in ((s .args .t .triples + c .before .before .if1 .moves + s .args .n) * 3 ≤ length (s .args .triples .now)) × ((s .args .t .rows + c .before .before .if1 .moves + 1) * 3 ≤ length (s .args .rows .now))
-fits c = let s = c .before .before .before .before .before .before .before .before in keep-fits (s .args .s) (s .args .t) (s .args .b .now) (s .args .log .now) (s .args .path .now) _ _ (s .args .found) (s .args .count) (s .args .removed) _ 0 _ (moves-are (c .before .before)) _ (c .before .refusal .ensures) (c .if2 .left) (s .pre .1 .1 .1 .1 .0)
+moves-of-requires : tie.Need-moves-of-requires
+moves-of-requires c κs = search needs
 
 sub-refusal : tie.Need-sub-refusal
 sub-refusal c = search needs
@@ -28,7 +24,7 @@ refusal-requires : tie.Need-refusal-requires
 refusal-requires c κs = search needs
 
 returns : tie.Need-returns
-returns c = let s = c .before .before .before .before .before .before .before .before in (keep-refused (s .args .s) (s .args .t) (s .args .b .now) (s .args .log .now) (s .args .path .now) (s .args .triples .now) (s .args .rows .now) (s .args .found) (s .args .count) (s .args .removed) (s .args .n) (s .args .s .grid .ny * s .args .s .grid .nx) _ (moves-are (c .before .before)) _ (c .before .refusal .ensures) (c .if2 .taken), settled-not _ _ (s .pre .1 .0))
+returns c = let s = c .before .before .before .before .before .before .before .before in (keep-refused (s .args .s) (s .args .t) (s .args .b .now) (s .args .log .now) (s .args .path .now) (s .args .triples .now) (s .args .rows .now) (s .args .route) (s .args .removed) (s .args .n) (s .args .s .grid .ny * s .args .s .grid .nx) _ (c .before .before .moves-of .ensures) _ (c .before .refusal .ensures) (c .if1 .taken), settled-not _ _ (s .pre .1 .0))
 
 greatest-requires : tie.Need-greatest-requires
 greatest-requires c κs = search needs
@@ -46,7 +42,7 @@ spot-requires-2 : tie.Need-spot-requires-2
 spot-requires-2 c κs = search needs
 
 list-pass-requires : tie.Need-list-pass-requires
-list-pass-requires c κs = let s = c .before .before .before .before .before .before .before .before .before .before .before .before .before .before .before .before in let f = fits (c .before .before .before .before .before .before .before .before) in (s .pre .1 .1 .1 .0, (omega (arith, f .0, moves-are (c .before .before .before .before .before .before .before .before .before .before)), (omega (arith, f .1, moves-are (c .before .before .before .before .before .before .before .before .before .before)), s .pre .1 .1 .1 .1 .0 .countable)))
+list-pass-requires c κs = let s = c .before .before .before .before .before .before .before .before .before .before .before .before .before .before .before .before in let f = fits (c .before .before .before .before .before .before .before .before) in let m = c .before .before .before .before .before .before .before .before .before .before .moves-of .ensures in (s .pre .1 .1 .1 .0, (omega (arith, f .0, m), (omega (arith, f .1, m), s .pre .1 .1 .1 .1 .0 .countable)))
 
 mul-settle : tie.Need-mul-settle
 mul-settle c = let h = c .before .before .before .before .before .before .before .before .before .before .before .before .before .before .before .before .before .before .before .before .before .before .before .pre .0 in omega (arith, h .cells)
@@ -54,17 +50,17 @@ mul-settle c = let h = c .before .before .before .before .before .before .before
 settle-requires : tie.Need-settle-requires
 settle-requires c κs = let s = c .before .before .before .before .before .before .before .before .before .before .before .before .before .before .before .before .before .before .before .before .before .before .before in (s .pre .0 .cells, (s .pre .1 .0, s .pre .1 .1 .0))
 
-add-t21 : tie.Need-add-t21
-add-t21 c = omega (arith, fits (c .before .before .before .before .before .before .before .before .before .before .before .before .before .before .before .before .before .before .before) .1, c .before .before .before .before .before .before .before .before .before .before .before .before .before .before .before .before .before .before .before .before .before .before .before .before .before .before .before .good)
+add-t19 : tie.Need-add-t19
+add-t19 c = omega (arith, fits (c .before .before .before .before .before .before .before .before .before .before .before .before .before .before .before .before .before .before) .1, c .before .before .before .before .before .before .before .before .before .before .before .before .before .before .before .before .before .before .before .before .before .before .before .before .before .before .good)
 
-add-t25 : tie.Need-add-t25
-add-t25 c = omega (arith, fits (c .before .before .before .before .before .before .before .before .before .before .before .before .before .before .before .before .before .before .before) .1, c .before .before .before .before .before .before .before .before .before .before .before .before .before .before .before .before .before .before .before .before .before .before .before .before .before .before .before .good)
+add-t23 : tie.Need-add-t23
+add-t23 c = omega (arith, fits (c .before .before .before .before .before .before .before .before .before .before .before .before .before .before .before .before .before .before) .1, c .before .before .before .before .before .before .before .before .before .before .before .before .before .before .before .before .before .before .before .before .before .before .before .before .before .before .good)
 
-add-t22 : tie.Need-add-t22
-add-t22 c = omega (arith, fits (c .before .before .before .before .before .before .before .before .before .before .before .before .before .before .before .before .before .before .before) .0, c .before .before .before .before .before .before .before .before .before .before .before .before .before .before .before .before .before .before .before .before .before .before .before .before .before .before .before .good)
+add-t20 : tie.Need-add-t20
+add-t20 c = omega (arith, fits (c .before .before .before .before .before .before .before .before .before .before .before .before .before .before .before .before .before .before) .0, c .before .before .before .before .before .before .before .before .before .before .before .before .before .before .before .before .before .before .before .before .before .before .before .before .before .before .good)
 
-add-t26 : tie.Need-add-t26
-add-t26 c = omega (arith, fits (c .before .before .before .before .before .before .before .before .before .before .before .before .before .before .before .before .before .before .before) .0, c .before .before .before .before .before .before .before .before .before .before .before .before .before .before .before .before .before .before .before .before .before .before .before .before .before .before .before .good)
+add-t18 : tie.Need-add-t18
+add-t18 c = omega (arith, fits (c .before .before .before .before .before .before .before .before .before .before .before .before .before .before .before .before .before .before) .0, c .before .before .before .before .before .before .before .before .before .before .before .before .before .before .before .before .before .before .before .before .before .before .before .before .before .before .good)
 
 same-length : tie.Need-same-length
 same-length c = search needs
@@ -76,12 +72,13 @@ same-length-3 : tie.Need-same-length-3
 same-length-3 c = search needs
 
 returns-2 : tie.Need-returns-2
-returns-2 c = let s = c .before .before .before .before .before .before .before .before .before .before .before .before .before .before .before .before .before .before .before .before .before .before .before .before .before .before .before in let l = c .before .before .before .before .before .before .before .before .before .before .list-pass .ensures in keep-listed (s .args .s) (s .args .t) (s .args .b .now) (s .args .log .now) (s .args .path .now) (s .args .triples .now) (s .args .rows .now) (s .args .found) (s .args .count) (s .args .removed) (s .args .n) (s .args .s .grid .ny * s .args .s .grid .nx) _ (moves-are (c .before .before .before .before .before .before .before .before .before .before .before .before .before .before .before .before .before .before .before .before .before)) _ (c .before .before .before .before .before .before .before .before .before .before .before .before .before .before .before .before .before .before .before .before .refusal .ensures) (c .before .before .before .before .before .before .before .before .before .before .before .before .before .before .before .before .before .before .before .if2 .left) (s .pre .1 .0) _ (c .before .before .before .before .before .before .before .before .before .before .before .before .before .before .before .before .before .greatest .ensures) _ (c .before .before .before .before .before .before .before .before .before .before .before .before .before .before .before .spot .ensures) _ (c .before .before .before .before .before .before .before .before .before .before .before .before .before .spot2 .ensures) _ (l .0) _ (l .1) _ (c .before .before .before .settle .ensures)
+returns-2 c = let s = c .before .before .before .before .before .before .before .before .before .before .before .before .before .before .before .before .before .before .before .before .before .before .before .before .before .before in let l = c .before .before .before .before .before .before .before .before .before .list-pass .ensures in keep-listed (s .args .s) (s .args .t) (s .args .b .now) (s .args .log .now) (s .args .path .now) (s .args .triples .now) (s .args .rows .now) (s .args .route) (s .args .removed) (s .args .n) (s .args .s .grid .ny * s .args .s .grid .nx) _ (c .before .before .before .before .before .before .before .before .before .before .before .before .before .before .before .before .before .before .before .before .moves-of .ensures) _ (c .before .before .before .before .before .before .before .before .before .before .before .before .before .before .before .before .before .before .before .refusal .ensures) (c .before .before .before .before .before .before .before .before .before .before .before .before .before .before .before .before .before .before .if1 .left) (s .pre .1 .0) _ (c .before .before .before .before .before .before .before .before .before .before .before .before .before .before .before .before .greatest .ensures) _ (c .before .before .before .before .before .before .before .before .before .before .before .before .before .before .spot .ensures) _ (c .before .before .before .before .before .before .before .before .before .before .before .before .spot2 .ensures) _ (l .0) _ (l .1) _ (c .before .before .settle .ensures)
 
 pub keep-pass-spec : {M : Type 1} → statement M
 keep-pass-spec =
     tie.close
     (tie.spec
+    moves-of-requires
     sub-refusal
     sub-refusal-2
     refusal-requires
@@ -94,10 +91,10 @@ keep-pass-spec =
     list-pass-requires
     mul-settle
     settle-requires
-    add-t21
-    add-t25
-    add-t22
-    add-t26
+    add-t19
+    add-t23
+    add-t20
+    add-t18
     same-length
     same-length-2
     same-length-3

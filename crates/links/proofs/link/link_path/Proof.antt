@@ -30,14 +30,11 @@ enum-known-x c = search needs
 enum-told : tie.Need-enum-told
 enum-told c = search needs
 
-nowhere-requires : tie.Need-nowhere-requires
-nowhere-requires c κs = search needs
-
 same-length-2 : tie.Need-same-length-2
 same-length-2 c = search needs
 
 returns-2 : tie.Need-returns-2
-returns-2 c = let s = c .before .before .before .before .before .before .before .before .before .before .before .before .before .before in link-no-from _ _ _ _ (s .args .allowed .now) _ (s .pre .0) (s .args .u .now) (s .pre .1 .1) _ _ _ (c .before .before .before .before .before .before .clear .ensures) (c .before .before .before .before .before .if1 .left) _ (c .before .before .before .cell-of .ensures) (c .before .enum-told .given .1) _ (c .nowhere .ensures)
+returns-2 c = let s = c .before .before .before .before .before .before .before .before .before .before .before .before .before in link-no-from _ _ _ _ (s .args .allowed .now) _ (s .pre .0) (s .args .u .now) (s .pre .1 .1) _ _ _ (c .before .before .before .before .before .clear .ensures) (c .before .before .before .before .if1 .left) _ (c .before .before .cell-of .ensures) (c .enum-told .given .1)
 
 cell-of-requires-2 : tie.Need-cell-of-requires-2
 cell-of-requires-2 c κs = search needs
@@ -48,14 +45,11 @@ enum-known-z c = search needs
 enum-told-2 : tie.Need-enum-told-2
 enum-told-2 c = search needs
 
-nowhere-requires-2 : tie.Need-nowhere-requires-2
-nowhere-requires-2 c κs = search needs
-
 same-length-3 : tie.Need-same-length-3
 same-length-3 c = search needs
 
 returns-3 : tie.Need-returns-3
-returns-3 c = let s = c .before .before .before .before .before .before .before .before .before .before .before .before .before .before .before .before .before .before in link-no-to _ _ _ _ (s .args .allowed .now) _ (s .pre .0) (s .args .u .now) (s .pre .1 .1) _ _ _ (c .before .before .before .before .before .before .before .before .before .before .clear .ensures) (c .before .before .before .before .before .before .before .before .before .if1 .left) _ (c .before .before .before .before .before .before .before .cell-of .ensures) _ _ (c .before .before .before .before .before .x .given .1) _ (c .before .before .before .cell-of2 .ensures) (c .before .enum-told2 .given .1) _ (c .nowhere2 .ensures)
+returns-3 c = let s = c .before .before .before .before .before .before .before .before .before .before .before .before .before .before .before .before .before in link-no-to _ _ _ _ (s .args .allowed .now) _ (s .pre .0) (s .args .u .now) (s .pre .1 .1) _ _ _ (c .before .before .before .before .before .before .before .before .before .clear .ensures) (c .before .before .before .before .before .before .before .before .if1 .left) _ (c .before .before .before .before .before .before .cell-of .ensures) _ _ (c .before .before .before .before .x .given .1) _ (c .before .before .cell-of2 .ensures) (c .enum-told2 .given .1)
 
 lattice-of-requires : tie.Need-lattice-of-requires
 lattice-of-requires c κs = let s = c .before .before .before .before .before .before .before .before .before .before .before .before .before .before .before .before .before .before in let a = on-grid-at _ _ _ _ _ (c .before .before .before .before .before .before .before .cell-of .ensures) (c .before .before .before .before .before .x .given .1) in let b = on-grid-at _ _ _ _ _ (c .before .before .before .cell-of2 .ensures) (c .before .z .given .1) in (s .pre .0 .over .sides, (a .0, (a .1, (b .0, b .1))))
@@ -83,13 +77,11 @@ link-path-spec =
     cell-of-requires
     enum-known-x
     enum-told
-    nowhere-requires
     same-length-2
     returns-2
     cell-of-requires-2
     enum-known-z
     enum-told-2
-    nowhere-requires-2
     same-length-3
     returns-3
     lattice-of-requires

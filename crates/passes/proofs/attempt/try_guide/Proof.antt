@@ -1,5 +1,5 @@
 -- `passes::attempt::try_guide` meets its contract. Assumes nothing.
-use Rattle.passes.proofs.AttemptLaws.{tried-logged, tried-back, tried-room, tried-full, tried-judged}
+use Rattle.passes.proofs.AttemptLaws.{tried-logged, tried-back, tried-room, tried-full, tried-worth, tried-nothing}
 use borrow.Author.Needs.{needs}
 use Rattle.passes.proofs.attempt.try_guide.Statement.{statement}
 use Rattle.passes.proofs.attempt.try_guide.Tie as tie
@@ -35,7 +35,19 @@ same-length-6 : tie.Need-same-length-6
 same-length-6 c = search needs
 
 returns-2 : tie.Need-returns-2
-returns-2 c = (tried-back _ _ _ _ _ _ _ _ _ _ _ (c .before .before .before .before .before .before .before .before .before .before .before .before .before .before .simulate .ensures) (c .before .before .before .before .before .before .before .before .before .before .before .before .before .before .before .before .before .before .before .before .before .before .before .before .before .before .before .pre .1 .1 .ready) _ (c .before .before .before .before .before .undo .ensures), tried-judged _ _ _ _ _ _ _ _ _ _ _ (c .before .before .before .before .before .before .before .before .before .before .before .before .before .before .simulate .ensures) (c .before .before .if1 .left) _ (c .worth .ensures))
+returns-2 c = (tried-back _ _ _ _ _ _ _ _ _ _ _ (c .before .before .before .before .before .before .before .before .before .before .before .before .before .before .before .simulate .ensures) (c .before .before .before .before .before .before .before .before .before .before .before .before .before .before .before .before .before .before .before .before .before .before .before .before .before .before .before .before .pre .1 .1 .ready) _ (c .before .before .before .before .before .before .undo .ensures), tried-worth _ _ _ _ _ _ _ _ _ _ _ (c .before .before .before .before .before .before .before .before .before .before .before .before .before .before .before .simulate .ensures) (c .before .before .before .if1 .left) _ (c .before .worth .ensures) (c .if2 .taken))
+
+same-length-7 : tie.Need-same-length-7
+same-length-7 c = search needs
+
+same-length-8 : tie.Need-same-length-8
+same-length-8 c = search needs
+
+same-length-9 : tie.Need-same-length-9
+same-length-9 c = search needs
+
+returns-3 : tie.Need-returns-3
+returns-3 c = (tried-back _ _ _ _ _ _ _ _ _ _ _ (c .before .before .before .before .before .before .before .before .before .before .before .before .before .before .before .simulate .ensures) (c .before .before .before .before .before .before .before .before .before .before .before .before .before .before .before .before .before .before .before .before .before .before .before .before .before .before .before .before .pre .1 .1 .ready) _ (c .before .before .before .before .before .before .undo .ensures), tried-nothing _ _ _ _ _ _ _ _ _ _ _ (c .before .before .before .before .before .before .before .before .before .before .before .before .before .before .before .simulate .ensures) (c .before .before .before .if1 .left) _ (c .before .worth .ensures) (c .if2 .left))
 
 pub try-guide-spec : {M : Type 1} → statement M
 try-guide-spec =
@@ -51,4 +63,8 @@ try-guide-spec =
     same-length-4
     same-length-5
     same-length-6
-    returns-2)
+    returns-2
+    same-length-7
+    same-length-8
+    same-length-9
+    returns-3)
