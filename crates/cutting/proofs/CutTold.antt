@@ -4,6 +4,7 @@ use mathlib.Core.Bool.{Bool}
 use mathlib.Core.List.{List, [], _∷_, _++_}
 use mathlib.Core.Option.{Option, none}
 use Prim.Native.Nat.{ℕ}
+use native.Mathlib.Omega.{arith}
 use lib.ListN.{length}
 use lib.Ieee.{Float}
 use Rattle.geom.specs.declared.vec2.Vec2.{Vec2}
@@ -17,9 +18,10 @@ use Rattle.events.specs.Chunk.{Point, Chunk, cut, Entry, Job}
 use Rattle.events.specs.Followed.{Followed}
 use Rattle.events.specs.Lent.{rowsFrom, allTriples, flatRows, flatTriples, Holds}
 use Rattle.events.specs.Events.{Event, State, state, zeros, begin, steps, after, Legal, Fit}
-use Rattle.events.specs.Told.{Demand3, Report, Counted, Finished}
+use Rattle.events.specs.Told.{eventsOf, Demand3, Report, Counted, Finished}
 use Rattle.events.proofs.Demand.{demand3}
 use Rattle.events.proofs.GrowLaws.{after-append, legal-more, inv-all}
+use Rattle.events.proofs.CountLaws.{events-append}
 use Rattle.events.proofs.Finish.{finished}
 use Rattle.events.proofs.FollowLaws.{followed-append, links-followed, plunge-followed}
 use Rattle.passes.specs.Attempt.{Outcome}
@@ -62,6 +64,8 @@ Answers e (Refused n) = Unit {0}
 pub record CutTold (j : Job) (es : List Event) (m gone l rows : List ℕ) (o : List Float) (q : WithEvents) : Type 0 where
   pub planned : Planned j (es ++ q .events) (q .left .map) gone (q .left .log) (q .left .rows) (q .left .out)
   pub claim : Demand3 j (es ++ q .events)
+  -- no place of a helix is given up by it
+  pub places : eventsOf 5 (es ++ q .events) ≡ eventsOf 5 es
   pub answers : Answers (after j (es ++ q .events)) (q .left .answer)
   pub map-long : length (q .left .map) ≡ length m
   pub log-long : length (q .left .log) ≡ length l
@@ -121,6 +125,7 @@ module _ (j : Job) (F : Fit j) (es : List Event) (m gone l rows : List ℕ) (o :
           followed = subst (λ (e : State). Followed (e .rows)) (sym x) (followed-append (after j es .rows) (listedBy (left .answer) new) (P .followed) (listed-followed (left .answer) new f));
         };
         claim = demand3 j F (es ++ q .events) legal;
+        places = omega (arith, events-append 5 es (q .events), g .places);
         answers = subst (λ (e : State). Answers e (left .answer)) (sym x) (answer-of (left .answer) _ _ _ _ (h .counted));
         map-long = g .map-long;
         log-long = g .log-long;

@@ -4,6 +4,7 @@ use mathlib.Core.Bool.{Bool, false}
 use mathlib.Core.List.{List, _++_}
 use mathlib.Core.Option.{Option, none}
 use Prim.Native.Nat.{ℕ}
+use native.Mathlib.Omega.{arith}
 use lib.Ieee.{Float}
 use Rattle.loops.proofs.Cases.{never}
 use Rattle.geom.specs.declared.vec2.Vec2.{Vec2}
@@ -12,7 +13,9 @@ use Rattle.setup.specs.Place.{allowedAt, freeAt}
 use Rattle.setup.specs.declared.Setup.{Setup}
 use Rattle.events.specs.Chunk.{Chunk, Entry, Job}
 use Rattle.events.specs.Events.{Event, State, state, steps, LegalFrom}
+use Rattle.events.specs.Told.{howMany}
 use Rattle.events.proofs.GrowLaws.{steps-append, legal-append}
+use Rattle.events.proofs.CountLaws.{events-append}
 use Rattle.passes.specs.Guide.{blendOf}
 use Rattle.passes.specs.Attempt.{Outcome, oc, startBy}
 use Rattle.passes.specs.Tried.{jobAt, Measured}
@@ -53,6 +56,7 @@ module _ (s : Setup) (wall vs : List Float) (lens start : List ℕ) (limit : Flo
       let x : steps job (idleAt l) (es ++ fs) ≡ steps job (idleAt (c .log)) fs = steps-append job es fs (idleAt l) ∙ ap (λ (f : State). steps job f fs) d in
       record {
         legal = legal-append job es fs (idleAt l) (h .legal) (subst (λ (f : State). LegalFrom job f fs) (sym d) (g .legal));
+        places = omega (arith, events-append 5 es fs, h .places, g .places);
         long = g .long ∙ h .long;
         full = g .full;
         idle = λ b. x ∙ g .idle b;
@@ -75,8 +79,8 @@ module _ (s : Setup) (wall vs : List Float) (lens start : List ℕ) (limit : Flo
         (start-legal s wall vs lens start limit entry M kept m gone rows position (c .log) (c .out) (ready-same m log (c .log) R (h .long)) walk g refl)
 
     tries-here : (o : List Float) → let q = triesOf s allowed pts closed pos kept m log o in Tells log (q .outcome) (q .events)
-    unfolding steps
-    tries-here o = keeps-tries s allowed pts closed pos kept m Claim try-each log o (record { legal = tt; long = refl; full = λ h. never h; idle = λ h. refl; trial = λ h. never h })
+    unfolding steps howMany
+    tries-here o = keeps-tries s allowed pts closed pos kept m Claim try-each log o (record { legal = tt; places = refl; long = refl; full = λ h. never h; idle = λ h. refl; trial = λ h. never h })
 
 -- from any state with the map m and the log's slice `log`
 pub tries-legal : (s : Setup) (wall vs : List Float) (lens start : List ℕ) (limit : Float) (entry : Entry) → Measured s → (pts : List Vec2) (closed : Bool) (pos : Place) (kept : ℕ) (m log : List ℕ) (o : List Float)

@@ -1,9 +1,9 @@
 -- A start of a piece tried is legal events: a pass that is not worth it is withdrawn, and one that is stays on trial. Assumes nothing.
 use mathlib.Core.Path.{_≡_, refl, sym, ap, _∙_, subst}
 use mathlib.Core.Bool.{Bool, true, false, cond, true≢false}
-use mathlib.Core.List.{List, [], _∷_, _++_}
+use mathlib.Core.List.{List, [], _∷_}
 use mathlib.Core.Option.{Option, none, some}
-use Prim.Native.Nat.{ℕ, zero, suc, _+_, _≤_}
+use Prim.Native.Nat.{ℕ, zero, suc, _≤_}
 use native.Mathlib.Omega.{arith}
 use lib.ListN.{length}
 use lib.Ieee.{Float}
@@ -16,6 +16,7 @@ use Rattle.setup.specs.declared.Setup.{Setup}
 use Rattle.events.specs.Chunk.{Point, Chunk, Entry, Job}
 use Rattle.events.specs.Replay.{BeginsGood}
 use Rattle.events.specs.Events.{Event, tried, withdrawn, State, state, step, steps, PassChecked, OnTrial, Checked, LegalFrom}
+use Rattle.events.specs.Told.{howMany, eventsOf}
 use Rattle.events.specs.Read.{pointAt, pointsFrom}
 use Rattle.events.proofs.PassLaws.{first-point}
 use Rattle.passes.specs.Simulate.{Pass, simulateOf}
@@ -47,6 +48,8 @@ pub record Trial (j : Job) (e : State) (kept : ℕ) (m : List ℕ) (c : Outcome)
 -- the events es of tries with the outcome c, from the state e on, whose map is m and whose log's slice is l
 pub record TriesLegal (j : Job) (e : State) (kept : ℕ) (m l : List ℕ) (c : Outcome) (es : List Event) : Type 0 where
   pub legal : LegalFrom j e es
+  -- no place of a helix is given up
+  pub places : eventsOf 5 es ≡ 0
   pub long : length (c .log) ≡ length l
   pub full : c .attempt .full ≡ true → c .attempt .worth ≡ false
   pub idle : c .attempt .worth ≡ false → steps j e es ≡ state (st m (c .log) 0) (e .rows) (e .position) none none (e .abandoned)
@@ -64,6 +67,11 @@ module _ (j : Job) (m l gone : List ℕ) (rows : List Chunk) (position : Option 
 
   abbrev attempt : Event
   attempt = tried ps (u .trial .removed)
+
+  try-places : (b : Bool) → eventsOf 5 (attempt ∷ cond b [] (withdrawn ∷ [])) ≡ 0
+  unfolding howMany
+  try-places true = refl
+  try-places false = refl
 
   module _ (C : Checked j before attempt) (D : step j before attempt ≡ onTrial) where
     try-legal : (b : Bool) → LegalFrom j before (attempt ∷ cond b [] (withdrawn ∷ []))
@@ -122,6 +130,7 @@ module _ (s : Setup) (wall vs : List Float) (lens start : List ℕ) (limit : Flo
       subst (λ (q : List Point). Checked job (idleAt l) (tried q n) × (step job (idleAt l) (tried q n) ≡ onTrial job m l gone rows position u K q)) (sym (T .read)) (tried-step job kept m l o u T (idleAt l) refl refl refl) in
       record {
         legal = try-legal job m l gone rows position u K ps (P .0) (P .1) b;
+        places = try-places job m l gone rows position u K ps b;
         long = K .log-long;
         full = full-not (u .trial .full) w;
         idle = try-idle job m l gone rows position u K ps (P .0) (P .1) b;
@@ -143,8 +152,8 @@ module _ (s : Setup) (wall vs : List Float) (lens start : List ℕ) (limit : Flo
   -- a start, with a guide or without
   pub start-legal : (l : List ℕ) (o : List Float) → Ready (st m l 0) → (pts : List Vec2) (g : Option (List Vec2)) → blendOf s allowed (freeAt s m) pts ≡ g
       → Tells l (startBy s allowed g kept m l o) (tryEvents kept g (startBy s allowed g kept m l o))
-  unfolding startBy outcomeOf tryEvents steps
-  start-legal l o R pts none e = record { legal = tt; long = refl; full = λ h. never h; idle = λ h. refl; trial = λ h. never h }
+  unfolding startBy outcomeOf tryEvents steps howMany
+  start-legal l o R pts none e = record { legal = tt; places = refl; long = refl; full = λ h. never h; idle = λ h. refl; trial = λ h. never h }
   start-legal l o R pts (some q) e =
       let u : Pass = simulateOf s allowed q kept m l o in
       guide-legal l o u (blend-tried s wall vs lens start limit entry M kept m l o R pts q e) (ran-kept s kept m l o R u (simulate-ran s allowed kept m l o q)) q

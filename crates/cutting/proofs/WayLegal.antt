@@ -15,11 +15,12 @@ use Rattle.raster.proofs.LogLaws.{Kept as Cleared, st-eq}
 use Rattle.setup.specs.declared.Setup.{Setup}
 use Rattle.links.specs.Straight.{linkClear}
 use Rattle.links.specs.Path.{Way, lost, way, Chained}
-use Rattle.links.specs.Link.{Linked, linked, linkPath}
+use Rattle.links.specs.Link.{Linked, linkPath}
 use Rattle.links.proofs.WayLaws.{link-chained, link-straight-way}
 use Rattle.events.specs.Chunk.{Point, Chunk, plunge, link, cut, Entry, Job}
 use Rattle.events.specs.Replay.{spots, goneTo, BeginsGood}
-use Rattle.events.specs.Events.{kept, State, state, putBackAll, takeAgain, step, steps, NoWayChecked, Unlinked, nowhere, lifted, denied, PlungeChecked, KeepChecked, LegalFrom}
+use Rattle.events.specs.Events.{linked, kept, State, state, putBackAll, takeAgain, step, steps, NoWayChecked, Unlinked, nowhere, lifted, denied, PlungeChecked, KeepChecked, LegalFrom}
+use Rattle.events.specs.Told.{howMany, eventsOf}
 use Rattle.events.specs.Read.{spotAt, pointAt, pointsFrom}
 use Rattle.events.proofs.WayLaws.{way-is, no-way-is, WayChecked, way-legal}
 use Rattle.events.proofs.PassLaws.{last-more, first-point}
@@ -33,6 +34,20 @@ use Rattle.cutting.specs.Piece.{wayEvents}
 abbrev pub positionOf : Place → Option Vec2
 positionOf Nowhere = none
 positionOf (At p) = some p
+
+-- ---- no place of a helix is given up on the way
+
+links-places : (ws : List Vec2) → eventsOf 5 (map linked ws) ≡ 0
+unfolding howMany
+links-places [] = refl
+links-places (w ∷ ws) = omega (arith, links-places ws)
+
+pub way-places : (down : Bool) (pos : Place) (w : Way) (q : Vec2) → eventsOf 5 (wayEvents down pos w q) ≡ 0
+unfolding wayEvents howMany
+way-places down Nowhere w q = refl
+way-places true (At a) lost q = refl
+way-places false (At a) lost q = refl
+way-places down (At a) (way ws) q = links-places ws
 
 -- ---- the way to the pass on trial
 

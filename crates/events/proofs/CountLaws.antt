@@ -2,7 +2,7 @@
 use mathlib.Core.Path.{_≡_, ap, _∙_}
 use mathlib.Core.Bool.{Bool, false, cond}
 use mathlib.Core.List.{List, [], _∷_, _++_}
-use mathlib.Core.Option.{Option, some}
+use mathlib.Core.Option.{Option}
 use Prim.Native.Nat.{ℕ, _+_}
 use native.Mathlib.Omega.{arith}
 use native.Mathlib.Nat.{zero-add}
@@ -12,10 +12,13 @@ use Rattle.events.specs.Lent.{kindOf}
 use Rattle.events.specs.Events.{Event, tried, withdrawn, linked, plunged, noWay, kept, entered, givenUp, State, begin, keep, step, steps, after, Checked, LegalFrom, Legal}
 use Rattle.events.specs.Told.{howMany, kindBy, eventsOf, chunksOf}
 
-pub many-append : {A : Type 0} (f : A → Bool) (a b : List A) → howMany f (a ++ b) ≡ howMany f a + howMany f b
+many-append : {A : Type 0} (f : A → Bool) (a b : List A) → howMany f (a ++ b) ≡ howMany f a + howMany f b
 unfolding howMany
 many-append f [] b = omega arith
 many-append f (x ∷ a) b = omega (arith, many-append f a b)
+
+pub events-append : (k : ℕ) (a b : List Event) → eventsOf k (a ++ b) ≡ eventsOf k a + eventsOf k b
+events-append k a b = many-append (λ (e : Event). eqb (kindBy e) k) a b
 
 -- a kind of rows: neither 0 nor 5
 module _ (j : Job) (k : ℕ) (some-kind : eqb 0 k ≡ false) (no-place : eqb 5 k ≡ false) where

@@ -1,14 +1,14 @@
 -- The claim of a finished plan: legal events with nothing on trial at their end, slices that hold their list, and numbers that are counted. Assumes nothing.
-use mathlib.Core.Path.{_≡_, refl, sym, _∙_}
+use mathlib.Core.Path.{_≡_, refl, _∙_}
 use mathlib.Core.List.{List}
 use mathlib.Core.Option.{none}
 use Prim.Native.Nat.{ℕ}
 use lib.ListN.{length}
 use lib.Ieee.{Float}
 use Rattle.loops.specs.Cells.{ones}
-use Rattle.events.specs.Chunk.{Chunk, Job}
+use Rattle.events.specs.Chunk.{Job}
 use Rattle.events.specs.Lent.{Holds}
-use Rattle.events.specs.Events.{Event, givenUp, after, Legal, Fit}
+use Rattle.events.specs.Events.{Event, after, Legal, Fit}
 use Rattle.events.specs.Told.{eventsOf, chunksOf, Report, Counted, Finished}
 use Rattle.events.proofs.LentLaws.{holds-decode}
 use Rattle.events.proofs.Demand.{idle, demand3}

@@ -9,7 +9,7 @@ use lib.Ieee.{Float, binary64, add, le, lt}
 use Rattle.geom.specs.declared.vec2.Vec2.{Vec2}
 use Rattle.raster.specs.Stock.{clearDisk}
 use Rattle.raster.specs.Log.{Stock, st, clearAfter, undone, redone, Cut, passes}
-use Rattle.events.specs.Chunk.{Point, Chunk, helix, plunge, link, cut, Spot, Job}
+use Rattle.events.specs.Chunk.{Point, Chunk, helix, plunge, link, cut, Job}
 use Rattle.events.specs.Replay.{spots, goneTo, helixEnd, BeginsGood}
 use Rattle.events.specs.Helix.{radiusOf}
 
