@@ -140,6 +140,6 @@ module _ (s : Setup) (wall vs : List Float) (lens allowed : List ℕ) (pts : Lis
   cut-holds o h =
       let may : Vec2 → Bool = allowedAt s wall vs lens in
       let q : Tries = triesOf s may pts closed (t .pos) (t .triples) m log o in
-      let x = after-holds q (tries-stand s may M (t .triples) m rows cs B pts closed (t .pos) log R o h .held)
+      let x = after-holds q (tries-stand s wall vs lens M (t .triples) m rows cs B pts closed (t .pos) log R o h .held)
       (λ f w. let two = tries-room s may pts closed (t .pos) (t .triples) m log o R f w .1 in omega arith) in
       record { held = x .held; counted = x .counted; rows-long = x .rows-long; out-long = x .out-long ∙ tries-long s may pts closed (t .pos) (t .triples) m log o R }

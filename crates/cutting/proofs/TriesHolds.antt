@@ -9,9 +9,9 @@ use lib.Ieee.{Float}
 use Rattle.geom.specs.Vec.{f0}
 use Rattle.geom.specs.declared.vec2.Vec2.{Vec2}
 use Rattle.raster.specs.Log.{st, Ready}
-use Rattle.setup.specs.Place.{freeAt}
+use Rattle.setup.specs.Place.{allowedAt, freeAt}
 use Rattle.setup.specs.declared.Setup.{Setup}
-use Rattle.events.specs.Chunk.{Chunk}
+use Rattle.events.specs.Chunk.{Chunk, Entry}
 use Rattle.events.specs.Lent.{allTriples, Holds, HoldsTrial}
 use Rattle.events.specs.Read.{pointsFrom}
 use Rattle.events.proofs.LentLaws.{trial-none, trial-withdrawn}
@@ -30,15 +30,21 @@ pub record Stands (rows : List ℕ) (cs : List Chunk) (kept : ℕ) (l : List ℕ
   pub long : length (c .log) ≡ length l
   pub held : HoldsTrial rows (c .out) cs (pointsFrom (c .out) kept (c .attempt .points))
 
-module _ (s : Setup) (allowed : Vec2 → Bool) (M : Measured s) (kept : ℕ) (m rows : List ℕ) (cs : List Chunk) (K : length (allTriples cs) ≡ kept) where
-  -- the job's start and limit are nothing to the triples
+-- the job's start, limit and entry are nothing to the triples
+abbrev noEntry : Entry
+noEntry = record { place = λ m gone. none; abandon = λ m gone. gone; least = f0 }
+
+module _ (s : Setup) (wall vs : List Float) (lens : List ℕ) (M : Measured s) (kept : ℕ) (m rows : List ℕ) (cs : List Chunk) (K : length (allTriples cs) ≡ kept) where
+  abbrev allowed : Vec2 → Bool
+  allowed = allowedAt s wall vs lens
+
   start-stands : (l : List ℕ) (o : List Float) → Ready (st m l 0) → Holds rows o cs → (pts : List Vec2) (g : Option (List Vec2)) → blendOf s allowed (freeAt s m) pts ≡ g
       → Stands rows cs kept l (startBy s allowed g kept m l o)
   unfolding startBy outcomeOf judgedBy
   start-stands l o R h pts none e = record { long = refl; held = trial-none rows o cs h }
   start-stands l o R h pts (some q) e =
       let u : Pass = simulateOf s allowed q kept m l o in
-      let T = blend-tried s allowed [] f0 M kept m l o R pts q e in
+      let T = blend-tried s wall vs lens [] f0 noEntry M kept m l o R pts q e in
       record {
         long = ran-kept s kept m l o R u (simulate-ran s allowed kept m l o q) .log-long;
         held = subst (HoldsTrial rows (u .out) cs) (sym (T .read)) (T .held rows cs K h);

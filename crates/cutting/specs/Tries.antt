@@ -48,10 +48,10 @@ ts c es = record { outcome = c; events = es }
 abbrev pub worked : ℕ → Attempted → Attempted
 worked w a = att (a .full) (a .worth) (a .points) (a .removed) (satAdd w (a .work))
 
--- a pass that was tried is withdrawn unless it is worth it; without a guide none was
+-- a pass that was tried, with the cells that it removed, is withdrawn unless it is worth it; without a guide none was
 unfoldable pub tryEvents : ℕ → Option (List Vec2) → Outcome → List Event
 tryEvents kept none r = []
-tryEvents kept (some pts) r = tried (pointsFrom (r .out) kept (r .attempt .points)) ∷ cond (r .attempt .worth) [] (withdrawn ∷ [])
+tryEvents kept (some pts) r = tried (pointsFrom (r .out) kept (r .attempt .points)) (r .attempt .removed) ∷ cond (r .attempt .worth) [] (withdrawn ∷ [])
 
 unfoldable pub triedEnd : Run Tries Tries → Tries
 triedEnd (on t) = t

@@ -2,7 +2,7 @@
 use mathlib.Core.Path.{_≡_, refl, sym, ap, _∙_, subst}
 use Prim.Native.Nat.{ℕ, zero, suc, _+_, _-_}
 use native.Mathlib.Omega.{arith}
-use mathlib.Core.List.{List, [], _∷_, _++_}
+use mathlib.Core.List.{List, [], _∷_, _++_, map}
 use lib.ListN.{length, length-append}
 use lib.Ieee.{Float}
 use Rattle.loops.specs.Loop.{turns, loop}
@@ -12,19 +12,15 @@ use Rattle.raster.specs.Log.{Stock, Ready, clearAfter, passes}
 use Rattle.raster.specs.declared.grid.Grid.{Grid}
 use Rattle.raster.proofs.LogLaws.{Kept, kept-none, kept-cell, keep-after}
 use Rattle.events.specs.Chunk.{Point, Job}
+use Rattle.events.specs.Replay.{lastOf, spots}
 use Rattle.events.specs.Events.{cutsFrom, cutsOf, passLogged, PointChecked, LaterChecked}
 use Rattle.events.specs.Read.{spotAt, pointAt, pointsFrom, crescentBy, passBy}
 
 -- ---- one more point
 
--- where the later points leave the tool, which was at p
-abbrev pub lastAt : Vec2 → List Point → Vec2
-lastAt p [] = p
-lastAt p (q ∷ qs) = lastAt (q .at) qs
-
-pub last-more : (p : Vec2) (ps : List Point) (q : Point) → lastAt p (ps ++ (q ∷ [])) ≡ q .at
-last-more p [] q = refl
-last-more p (d ∷ ps) q = last-more (d .at) ps q
+pub last-more : {A B : Type 0} (f : B → A) (a : A) (l : List B) (x : B) → lastOf a (map f (l ++ (x ∷ []))) ≡ f x
+last-more f a [] x = refl
+last-more f a (y ∷ l) x = last-more f (f y) l x
 
 module _ (j : Job) where
   -- the stock after the later points ps of a pass
@@ -32,7 +28,7 @@ module _ (j : Job) where
   laterLogged p ps s = passes (j .grid) (cutsFrom (j .r) p ps) s
 
   pub later-more : (p : Vec2) (ps : List Point) (q : Point) (s : Stock)
-      → clearAfter (j .grid) (lastAt p ps) (q .at) (j .r) (laterLogged p ps s) ≡ laterLogged p (ps ++ (q ∷ [])) s
+      → clearAfter (j .grid) (lastOf p (spots ps)) (q .at) (j .r) (laterLogged p ps s) ≡ laterLogged p (ps ++ (q ∷ [])) s
   unfolding passes cutsFrom
   later-more p [] q s = refl
   later-more p (d ∷ ps) q s = later-more (d .at) ps q _
@@ -63,9 +59,9 @@ first-point o a (suc n) =
     ∙ ap (λ (k : ℕ). pointAt o a ∷ (pointsFrom o (a + 1) n ++ (pointAt o k ∷ []))) (let z : a + suc n ≡ a + 1 + n = omega arith in z)
 
 module _ (j : Job) (ts : List Float) (first : ℕ) where
-  last-from : (n : ℕ) → lastAt (spotAt ts first) (pointsFrom ts (first + 1) n) ≡ spotAt ts (first + (1 + n) - 1)
+  last-from : (n : ℕ) → lastOf (spotAt ts first) (spots (pointsFrom ts (first + 1) n)) ≡ spotAt ts (first + (1 + n) - 1)
   last-from zero = ap (spotAt ts) (let z : first ≡ first + (1 + 0) - 1 = omega arith in z)
-  last-from (suc n) = last-more _ (pointsFrom ts (first + 1) n) _ ∙ ap (spotAt ts) (let z : first + 1 + n ≡ first + (1 + suc n) - 1 = omega arith in z)
+  last-from (suc n) = last-more (λ (p : Point). p .at) _ (pointsFrom ts (first + 1) n) _ ∙ ap (spotAt ts) (let z : first + 1 + n ≡ first + (1 + suc n) - 1 = omega arith in z)
 
   turns-later : (n : ℕ) (s : Stock) → turns (crescentBy (j .grid) (j .r) ts first) 1 n s ≡ laterLogged j (spotAt ts first) (pointsFrom ts (first + 1) n) s
   unfolding turns crescentBy passes cutsFrom

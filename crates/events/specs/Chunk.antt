@@ -2,6 +2,7 @@
 use Prim.Native.Nat.{ℕ}
 use mathlib.Core.Bool.{Bool}
 use mathlib.Core.List.{List}
+use mathlib.Core.Option.{Option}
 use lib.Ieee.{Float}
 use Rattle.geom.specs.declared.vec2.Vec2.{Vec2}
 use Rattle.raster.specs.declared.grid.Grid.{Grid}
@@ -17,6 +18,17 @@ pub data Chunk : Type 0 where
   link : Vec2 → Chunk
   cut : List Point → Chunk
 
+-- a place for a helix: its centre, and the radius that is tried first
+pub record Spot : Type 0 where
+  pub centre : Vec2
+  pub widest : Float
+
+-- the judges of a helix's place, which see a map and the cells that are given up
+pub record Entry : Type 0 where
+  pub place : List ℕ → List ℕ → Option Spot  -- farthest from the walls among the reachable stock that is not given up
+  pub abandon : List ℕ → List ℕ → List ℕ  -- the cells given up, and with them the connected reachable stock at that place
+  pub least : Float  -- the least radius
+
 -- what the job settles: the raster, the starting stock, the numbers, and the judges of a place, which see a map and nothing else of the planner's
 pub record Job : Type 0 where
   pub grid : Grid
@@ -24,7 +36,9 @@ pub record Job : Type 0 where
   pub r : Float
   pub guard : Float
   pub limit : Float
+  pub keepDown : Bool  -- the tool is kept down between passes where there is a way
   pub allowed : Vec2 → Bool
   pub free : List ℕ → Vec2 → Bool  -- no stock in the tool's disk
   pub contact : List ℕ → Vec2 → Float  -- sampled at the widened radius
   pub linkClear : List ℕ → Vec2 → Vec2 → Bool  -- the samples of a straight feed
+  pub entry : Entry

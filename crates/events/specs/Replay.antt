@@ -2,7 +2,7 @@
 use Prim.Native.Nat.{ℕ, _-_, _<_}
 use mathlib.Core.Path.{_≡_}
 use mathlib.Core.Bool.{true}
-use mathlib.Core.List.{List, [], _∷_}
+use mathlib.Core.List.{List, [], _∷_, map}
 use mathlib.Core.Option.{Option, none, some}
 use lib.Ieee.{Float, binary64, add, mul, div, le, lt}
 use Rattle.loops.specs.Cells.{ones}
@@ -41,10 +41,17 @@ pass j (p ∷ ps) m = later j (p .at) ps m
 unfoldable pub removed : Job → List Point → List ℕ → ℕ
 removed j ps m = ones m - ones (pass j ps m)
 
--- where a pass leaves the tool, which was at `here`
-unfoldable pub lastOf : Option Vec2 → List Point → Option Vec2
-lastOf here [] = here
-lastOf here (p ∷ ps) = lastOf (some (p .at)) ps
+-- the last of a list; a where it is empty
+abbrev pub lastOf : {A : Type 0} → A → List A → A
+lastOf a [] = a
+lastOf a (x ∷ l) = lastOf x l
+
+abbrev pub spots : List Point → List Vec2
+spots ps = map (λ (p : Point). p .at) ps
+
+-- where points gone to one after another leave the tool, which was at `here`
+abbrev pub goneTo : Option Vec2 → List Vec2 → Option Vec2
+goneTo here ps = lastOf here (map some ps)
 
 -- ---- a helix
 
@@ -69,7 +76,7 @@ unfoldable pub replayRow : Job → Replay → Chunk → Replay
 replayRow j s (helix c rad) = rp (disk (j .grid) c (add binary64 rad (j .r)) (s .map)) (some (helixEnd c rad))
 replayRow j s (plunge p) = rp (s .map) (some p)
 replayRow j s (link p) = rp (s .map) (some p)
-replayRow j s (cut ps) = rp (pass j ps (s .map)) (lastOf (s .position) ps)
+replayRow j s (cut ps) = rp (pass j ps (s .map)) (goneTo (s .position) (spots ps))
 
 unfoldable pub replayFrom : Job → Replay → List Chunk → Replay
 replayFrom j s [] = s

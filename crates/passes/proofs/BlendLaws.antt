@@ -12,15 +12,15 @@ use Rattle.loops.proofs.Cases.{by-test, both}
 use Rattle.loops.proofs.LoopLaws.{loop-keeps}
 use Rattle.geom.specs.Vec.{f0}
 use Rattle.geom.specs.declared.vec2.Vec2.{Vec2}
-use Rattle.setup.specs.Place.{freeAt, biteOf}
+use Rattle.setup.specs.Place.{allowedAt, freeAt, biteOf}
 use Rattle.setup.specs.declared.Setup.{Setup}
-use Rattle.events.specs.Judges.{freeOn}
+use Rattle.events.specs.Chunk.{Entry}
 use Rattle.events.specs.Replay.{BeginsGood}
 use Rattle.passes.specs.declared.guide.Blend.{Blend}
 use Rattle.passes.specs.declared.guide.Blend.the-variants.{By, Nothing}
 use Rattle.passes.specs.Simulate.{nowhere}
 use Rattle.passes.specs.Guide.{Bend, bd, bendStep, bentEnd, bentOf, farOf, lenOf, attempt, chosen, chooseOf, blended, blendOf}
-use Rattle.passes.specs.Tried.{jobFor}
+use Rattle.passes.specs.Tried.{jobAt}
 
 -- ---- as many points
 
@@ -104,9 +104,9 @@ module _ (s : Setup) (allowed free : Vec2 → Bool) (pts : List Vec2) where
   blend-length l e = blend-good l e .0
 
 -- a pass along it begins well, by the job's own judges
-pub blend-begins : (s : Setup) (allowed : Vec2 → Bool) (start : List ℕ) (limit : Float) (m : List ℕ) (pts l : List Vec2) → blendOf s allowed (freeAt s m) pts ≡ some l
-    → BeginsGood (jobFor s allowed start limit) m (record { at = getD l 0 nowhere; contact = f0 })
-unfolding freeAt freeOn
-blend-begins s allowed start limit m pts l e =
-    let g = blend-good s allowed (freeAt s m) pts l e in
+pub blend-begins : (s : Setup) (wall vs : List Float) (lens start : List ℕ) (limit : Float) (entry : Entry) (m : List ℕ) (pts l : List Vec2)
+    → blendOf s (allowedAt s wall vs lens) (freeAt s m) pts ≡ some l
+    → BeginsGood (jobAt s wall vs lens start limit entry) m (record { at = getD l 0 nowhere; contact = f0 })
+blend-begins s wall vs lens start limit entry m pts l e =
+    let g = blend-good s (allowedAt s wall vs lens) (freeAt s m) pts l e in
     record { allowed = g .1; free = g .2; unmeasured = refl }

@@ -17,13 +17,13 @@ use Rattle.raster.specs.Log.{st, Ready}
 use Rattle.raster.proofs.LogLaws.{Kept}
 use Rattle.setup.specs.Place.{Walls, allowedAt, freeAt}
 use Rattle.setup.specs.declared.Setup.{Setup}
-use Rattle.events.specs.Chunk.{Point, Chunk, Job}
+use Rattle.events.specs.Chunk.{Point, Chunk, Entry, Job}
 use Rattle.events.specs.Events.{state, step, withdrawn}
 use Rattle.passes.specs.Simulate.{Pass, simulateOf}
 use Rattle.passes.specs.Guide.{blendOf, walkOf, flat, pointsIn, bentOr, isSome}
 use Rattle.passes.specs.declared.attempt.Attempt.the-variants.{Nothing}
 use Rattle.passes.specs.Attempt.{answerOf, Answered, ans, answered, outcomeOf, startBy, Spread}
-use Rattle.passes.specs.Tried.{jobFor, Measured}
+use Rattle.passes.specs.Tried.{jobAt, Measured}
 use Rattle.passes.proofs.LayLaws.{flat-length, points-flat, walk-length, part-half, part-some}
 use Rattle.passes.proofs.BlendLaws.{blend-begins, blend-length}
 use Rattle.passes.proofs.TriedLaws.{Tried, simulate-tried}
@@ -41,15 +41,18 @@ guide-read at n w l h e =
     ∙ points-flat l n e
 
 -- a pass along a blended guide is checked: it begins where the tool may be and touches no stock
-pub blend-tried : (s : Setup) (allowed : Vec2 → Bool) (start : List ℕ) (limit : Float) → Measured s → (kept : ℕ) (m log : List ℕ) (o : List Float) → Ready (st m log 0)
-    → (pts l : List Vec2) → blendOf s allowed (freeAt s m) pts ≡ some l → Tried (jobFor s allowed start limit) kept m log o (simulateOf s allowed l kept m log o)
-blend-tried s allowed start limit M kept m log o R pts l e = simulate-tried s allowed start limit M kept m log o R l (blend-begins s allowed start limit m pts l e)
+pub blend-tried : (s : Setup) (wall vs : List Float) (lens start : List ℕ) (limit : Float) (entry : Entry) → Measured s → (kept : ℕ) (m log : List ℕ) (o : List Float) → Ready (st m log 0)
+    → (pts l : List Vec2) → blendOf s (allowedAt s wall vs lens) (freeAt s m) pts ≡ some l
+    → Tried (jobAt s wall vs lens start limit entry) kept m log o (simulateOf s (allowedAt s wall vs lens) l kept m log o)
+blend-tried s wall vs lens start limit entry M kept m log o R pts l e =
+    simulate-tried s wall vs lens start limit entry M kept m log o R l (blend-begins s wall vs lens start limit entry m pts l e)
 
 -- undone for good: the map before the pass, and an empty log
-pub tried-withdrawn : (j : Job) (rows : List Chunk) (position : Option Vec2) (t : Option (List Point)) (m l : List ℕ) (u : Pass) → Kept (st m l 0) (st (u .cells) (u .log) (u .trial .removed))
-    → step j (state (st (u .cells) (u .log) (u .trial .removed)) rows position t) withdrawn ≡ state (st m (u .log) 0) rows position none
+pub tried-withdrawn : (j : Job) (rows : List Chunk) (position : Option Vec2) (t : Option (List Point)) (gone m l : List ℕ) (u : Pass)
+    → Kept (st m l 0) (st (u .cells) (u .log) (u .trial .removed))
+    → step j (state (st (u .cells) (u .log) (u .trial .removed)) rows position t none gone) withdrawn ≡ state (st m (u .log) 0) rows position none none gone
 unfolding step
-tried-withdrawn j rows position t m l u h = ap (λ (k : List ℕ). state (st k (u .log) 0) rows position none) (h .back)
+tried-withdrawn j rows position t gone m l u h = ap (λ (k : List ℕ). state (st k (u .log) 0) rows position none none gone) (h .back)
 
 -- ---- for the proof of `try_start`
 

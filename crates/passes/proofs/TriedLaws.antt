@@ -18,25 +18,23 @@ use Rattle.numbers.specs.Small.{f1, quarter}
 use Rattle.geom.specs.Vec.{v2, f0}
 use Rattle.geom.specs.declared.vec2.Vec2.{Vec2}
 use Rattle.raster.specs.Log.{Stock, st, Ready, clearAfter, passes}
-use Rattle.raster.specs.Contact.{engagementOf}
 use Rattle.raster.proofs.RunLaws.{kept-passes}
 use Rattle.setup.specs.Limits.{guardOf, targetOf}
-use Rattle.setup.specs.Place.{contactAt}
+use Rattle.setup.specs.Place.{allowedAt, contactAt}
 use Rattle.setup.specs.declared.Setup.{Setup}
 use Rattle.setup.proofs.LimitLaws.{target-at-most}
-use Rattle.events.specs.Chunk.{Point, Chunk, Job}
-use Rattle.events.specs.Judges.{contactOn}
+use Rattle.events.specs.Chunk.{Point, Chunk, Entry, Job}
 use Rattle.events.specs.Lent.{tripleAt, allTriples, Holds, HoldsTrial, setTriple}
 use Rattle.events.specs.Read.{pointAt, pointsFrom}
-use Rattle.events.specs.Replay.{removed, BeginsGood}
+use Rattle.events.specs.Replay.{lastOf, spots, removed, BeginsGood}
 use Rattle.events.specs.Events.{State, state, cutsFrom, cutsOf, passLogged, PointChecked, LaterChecked, PassChecked, Checked, tried, step}
 use Rattle.events.proofs.LentLaws.{trial-none, trial-more}
 use Rattle.events.proofs.TrialLaws.{pass-cells}
-use Rattle.events.proofs.PassLaws.{lastAt, last-more, laterLogged, later-more, checked-more}
+use Rattle.events.proofs.PassLaws.{last-more, laterLogged, later-more, checked-more}
 use Rattle.passes.specs.declared.shifts.Shift.the-variants.{At}
 use Rattle.passes.specs.Shifts.{maxShift}
 use Rattle.passes.specs.Simulate.{nowhere, Pass, ps, tr, spent, filled, stepOf, advanceOf, legStep, ended, begun, simulateOf}
-use Rattle.passes.specs.Tried.{jobFor, Measured}
+use Rattle.passes.specs.Tried.{widened, jobAt, Measured}
 use Rattle.passes.proofs.ServedLaws.{Served, search-served}
 use Rattle.passes.proofs.KeepLaws.{keeps-legs}
 
@@ -105,11 +103,14 @@ record Trying (j : Job) (kept : ℕ) (s : Stock) (o : List Float) (first : Point
   held : (rows : List ℕ) (cs : List Chunk) → length (allTriples cs) ≡ kept → Holds rows o cs → HoldsTrial rows (p .out) cs (first ∷ later)
   checked : LaterChecked j s (first .at) later
   stock : st (p .cells) (p .log) (p .trial .removed) ≡ laterLogged j (first .at) later s
-  prev : p .trial .prev ≡ lastAt (first .at) later
+  prev : p .trial .prev ≡ lastOf (first .at) (spots later)
 
-module _ (s : Setup) (allowed : Vec2 → Bool) (start : List ℕ) (limit : Float) (M : Measured s) (kept : ℕ) (stock : Stock) (o : List Float) (first : Point) where
+module _ (s : Setup) (wall vs : List Float) (lens start : List ℕ) (limit : Float) (entry : Entry) (M : Measured s) (kept : ℕ) (stock : Stock) (o : List Float) (first : Point) where
   abbrev job : Job
-  job = jobFor s allowed start limit
+  job = jobAt s wall vs lens start limit entry
+
+  abbrev allowed : Vec2 → Bool
+  allowed = allowedAt s wall vs lens
 
   abbrev Goes : Pass → Type 0
   Goes p = Trying job kept stock o first p
@@ -125,12 +126,9 @@ module _ (s : Setup) (allowed : Vec2 → Bool) (start : List ℕ) (limit : Float
     same-cells = ap (λ (t : Stock). t .cells) (h .stock)
 
     good : PointChecked job (laterLogged job (first .at) (h .later) stock .cells) (pt q e)
-    unfolding contactAt contactOn
     good = record {
       allowed = f .0;
-      measured = f .1
-          ∙ ap (λ (r : Float). engagementOf (s .grid) (p .cells) q r (s .samples)) (M .wide)
-          ∙ ap (λ (m : List ℕ). contactOn (s .grid) (s .r) (s .samples) allowed m q) same-cells;
+      measured = f .1 ∙ ap (contactAt s (p .cells) q) (M .wide) ∙ ap (λ (m : List ℕ). contactAt s m q (widened s)) same-cells;
       guarded = f .2;
     }
 
@@ -149,9 +147,9 @@ module _ (s : Setup) (allowed : Vec2 → Bool) (start : List ℕ) (limit : Float
               (trial-more rows (p .out) cs (first ∷ h .later) (pt q e) (omega arith) (h .held rows cs k b));
           checked = checked-more job stock (first .at) (h .later) (pt q e) (h .checked) good;
           stock = ap (λ (a : Vec2). clearAfter (s .grid) a q (s .r) (st (p .cells) (p .log) (p .trial .removed))) (h .prev)
-              ∙ ap (clearAfter (s .grid) (lastAt (first .at) (h .later)) q (s .r)) (h .stock)
+              ∙ ap (clearAfter (s .grid) (lastOf (first .at) (spots (h .later))) q (s .r)) (h .stock)
               ∙ later-more job (first .at) (h .later) (pt q e) stock;
-          prev = sym (last-more (first .at) (h .later) (pt q e));
+          prev = sym (last-more (λ (d : Point). d .at) (first .at) (h .later) (pt q e));
         }
 
   goes-legs : (pts : List Vec2) (n : ℕ) (p : Pass) → Goes p → Goes (ended (loop (turn (legStep s allowed kept pts)) 1 n (on p)))
@@ -160,9 +158,9 @@ module _ (s : Setup) (allowed : Vec2 → Bool) (start : List ℕ) (limit : Float
 
 -- ---- the theorem
 
-module _ (s : Setup) (allowed : Vec2 → Bool) (start : List ℕ) (limit : Float) (M : Measured s) (kept : ℕ) (m l : List ℕ) (o : List Float) where
+module _ (s : Setup) (wall vs : List Float) (lens start : List ℕ) (limit : Float) (entry : Entry) (M : Measured s) (kept : ℕ) (m l : List ℕ) (o : List Float) where
   abbrev jobHere : Job
-  jobHere = jobFor s allowed start limit
+  jobHere = jobAt s wall vs lens start limit entry
 
   -- the count is what is stock no more
   count-is : Ready (st m l 0) → (points : List Point) (n : ℕ) → n ≡ passLogged jobHere points (st m l 0) .count → n ≡ removed jobHere points m
@@ -213,13 +211,13 @@ module _ (s : Setup) (allowed : Vec2 → Bool) (start : List ℕ) (limit : Float
     }
 
     -- the first point of the guide is where the tool may be, and free
-    pub simulate-tried : (pts : List Vec2) → BeginsGood jobHere m (pt (getD pts 0 nowhere) f0) → Tried jobHere kept m l o (simulateOf s allowed pts kept m l o)
+    pub simulate-tried : (pts : List Vec2) → BeginsGood jobHere m (pt (getD pts 0 nowhere) f0) → Tried jobHere kept m l o (simulateOf s (allowedAt s wall vs lens) pts kept m l o)
     unfolding simulateOf
     simulate-tried pts g =
         let q : Vec2 = getD pts 0 nowhere in
         by-test (Tried jobHere kept m l o) (leb (length o / 3) kept) _ _
         (λ b. empty q)
-        (λ b. whole q _ g (goes-legs s allowed start limit M kept (st m l 0) o (pt q f0) pts (length pts) _ (begins q (leb-false (length o / 3) kept b))))
+        (λ b. whole q _ g (goes-legs s wall vs lens start limit entry M kept (st m l 0) o (pt q f0) pts (length pts) _ (begins q (leb-false (length o / 3) kept b))))
 
 -- with the limits of an engagement that questions 2 and 12 accept, setup keeps what the theorem asks
 pub measured-of : (s : Setup) (deg : Float) → le f1 deg ≡ true → lt deg (ofBits binary64 0x4066_8000_0000_0000) ≡ true
@@ -228,11 +226,12 @@ measured-of s deg low high G T W = record { wide = W; below = rw (T, G) (target-
 
 -- in a state whose map and log's slice it began with, the event is checked, and it leaves the map, the log and the count that the pass left
 pub tried-step : (j : Job) (kept : ℕ) (m l : List ℕ) (o : List Float) (u : Pass) (t : Tried j kept m l o u) (e : State) → e .stock .cells ≡ m → e .stock .log ≡ l → e .trial ≡ none
-    → Checked j e (tried (t .points)) × (step j e (tried (t .points)) ≡ state (st (u .cells) (u .log) (u .trial .removed)) (e .rows) (e .position) (some (t .points)))
+    → let v = tried (t .points) (u .trial .removed) in
+    Checked j e v × (step j e v ≡ state (st (u .cells) (u .log) (u .trial .removed)) (e .rows) (e .position) (some (t .points)) none (e .abandoned))
 unfolding step
 tried-step j kept m l o u t e a b c =
-    let d : st (e .stock .cells) (e .stock .log) 0 ≡ st m l 0 = λ i. st (a i) (b i) 0 in (
-      (c, subst (λ (k : Stock). PassChecked j k (t .points)) (sym d) (t .checked)),
-      ap (λ (k : Stock). state (passLogged j (t .points) k) (e .rows) (e .position) (some (t .points))) d
-          ∙ ap (λ (k : Stock). state k (e .rows) (e .position) (some (t .points))) (sym (t .stock)),
+    let d : st (e .stock .cells) (e .stock .log) 0 ≡ st m l 0 = λ i. st (a i) (b i) 0 in
+    let k : passLogged j (t .points) (st (e .stock .cells) (e .stock .log) 0) ≡ st (u .cells) (u .log) (u .trial .removed) = ap (passLogged j (t .points)) d ∙ sym (t .stock) in (
+      record { idle = c; points = subst (λ (x : Stock). PassChecked j x (t .points)) (sym d) (t .checked); count = sym (ap (λ (x : Stock). x .count) k) },
+      ap (λ (x : Stock). state x (e .rows) (e .position) (some (t .points)) none (e .abandoned)) k,
     )
