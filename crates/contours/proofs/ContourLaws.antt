@@ -2,9 +2,9 @@
 use mathlib.Core.Path.{_≡_, sym, ap, _∙_, subst}
 use mathlib.Core.Bool.{true, false}
 use mathlib.Core.List.{List, []}
-use Prim.Native.Nat.{ℕ, _-_, _*_, _≤_}
+use Prim.Native.Nat.{ℕ, _+_, _-_, _*_, _≤_, _<_}
 use native.Mathlib.Omega.{arith}
-use lib.ListN.{length}
+use lib.ListN.{length, getD}
 use lib.Ieee.{Float}
 use Rattle.loops.proofs.EachLaws.{each-all}
 use Rattle.loops.specs.Each.{Each}
@@ -17,9 +17,10 @@ use Rattle.raster.specs.declared.grid.Grid.{Grid}
 use Rattle.contours.specs.Edge.{Between, edge}
 use Rattle.contours.specs.Square.{Joins}
 use Rattle.contours.specs.March.{segmentsOf, march}
+use Rattle.geom.specs.Points.{points}
 use Rattle.geom.proofs.PointLaws.{points-length}
-use Rattle.pieces.specs.Piece.{Piece, pieceOf, piecesAt, Laid}
-use Rattle.pieces.proofs.PieceLaws.{each-piece}
+use Rattle.pieces.specs.Piece.{Piece, rowAt, pieceOf, piecesAt, Laid}
+use Rattle.pieces.proofs.PieceLaws.{each-piece, row-points}
 use Rattle.contours.specs.Chain.{Tables, tablesOf, Leads, edgePoint, Chains, chains, chainAll, chainedPieces}
 use Rattle.contours.specs.Curve.{contoursOf}
 use Rattle.contours.specs.Traced.{piecesIn, segmentsAt, Tracing, Traced, Tabled, TwoPoints, Contoured}
@@ -118,3 +119,9 @@ contoured-laid n l words pts words′ pts′ c w p r =
       inside = λ k h. omega (arith, r .packed .within k h, r .points-few, r .pts-long);
       apart = λ j k h d. r .packed .order j k h d;
     }
+
+-- the points of row k, read where they stand in a longer slice, are those of piece k
+pub contour-points : (n : ℕ) (l : List Piece) (words : List ℕ) (pts : List Float) (words′ : List ℕ) (a e : ℕ) (w : List Float) (c : Count) (k : ℕ) (d : Piece) → a + 4 * n ≤ e
+    → Contoured n l words pts words′ (within a e w) c → k < c .pieces → let r = rowAt (rowsIn n words′) k in
+    points 0 (r .points) (within (a + 2 * r .first) (a + 2 * r .first + 2 * r .points) w) ≡ getD l k d .points
+contour-points n l words pts words′ a e w c k d b h o = row-points (c .pieces) k (rowsIn n words′) a e w l d (h .is) o (omega (arith, h .packed .within k o, h .points-few))

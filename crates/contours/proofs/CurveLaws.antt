@@ -18,7 +18,7 @@ use Rattle.pieces.specs.Piece.{Piece}
 use Rattle.contours.specs.Edge.{edge, crossingAt, nothing}
 use Rattle.contours.specs.Square.{segment}
 use Rattle.contours.specs.March.{march}
-use Rattle.contours.specs.Curve.{EdgeMap, with, mapped, isSome, Joints, jointed, unjointed, jointsOf, goTo, goOn, curveOf, curveFrom, deduped, Curves, curves, addedPiece, openStarts, firsts, curved, startFrom, piecesOf, contoursOf}
+use Rattle.contours.specs.Curve.{EdgeMap, with, keyed, isSome, Joints, jointed, unjointed, jointsOf, goTo, goOn, curveOf, curveFrom, deduped, Curves, curves, addedPiece, openStarts, firsts, curved, startFrom, piecesOf, contoursOf}
 use Rattle.contours.specs.Chain.{inserted, tablesOf}
 use Rattle.contours.specs.Traced.{Below, TwoPoints}
 use Rattle.contours.specs.declared.edge.EdgeNo.{EdgeNo}
@@ -34,12 +34,12 @@ module _ (segs : List Segment) (a b : EdgeNo) where
 
   -- of segments that leave one edge the last one counts
   pub last-wins : jointsOf (segs ++ (segment a b ∷ [])) .next a ≡ some b
-  unfolding jointed mapped
+  unfolding jointed keyed
   last-wins = ap (λ (j : Joints). j .next a) last-is ∙ rw (eq-eqb (a .0) (a .0) refl) refl
 
   -- and where another edge leads stays
   pub others-stay : (k : EdgeNo) → (k .0 ≡ a .0 → ⊥) → jointsOf (segs ++ (segment a b ∷ [])) .next k ≡ jointsOf segs .next k
-  unfolding jointed mapped
+  unfolding jointed keyed
   others-stay k n = ap (λ (j : Joints). j .next k) last-is ∙ rw (ne-eqb (k .0) (a .0) n) refl
 
   -- so it is in the table
@@ -51,7 +51,7 @@ abbrev forked : List Segment
 forked = segment (edge 3) (edge 5) ∷ segment (edge 3) (edge 7) ∷ []
 
 pub forked-next : jointsOf forked .next (edge 3) ≡ some (edge 7)
-unfolding jointsOf over jointed mapped
+unfolding jointsOf over jointed keyed
 forked-next = refl
 
 pub forked-table : tablesOf 8 forked .next ≡ nothing ∷ nothing ∷ nothing ∷ 7 ∷ nothing ∷ nothing ∷ nothing ∷ nothing ∷ []
@@ -60,7 +60,7 @@ forked-table = refl
 
 -- the curve from edge 3 goes to edge 7
 pub forked-curve : curveFrom (jointsOf forked .next) 8 (λ k. false) (edge 3) .ids ≡ edge 3 ∷ edge 7 ∷ []
-unfolding jointsOf over jointed mapped curveFrom curveOf loop turns turn goOn goTo with
+unfolding jointsOf over jointed keyed curveFrom curveOf loop turns turn goOn goTo with
 forked-curve = refl
 
 -- ---- every piece has two points or more

@@ -21,7 +21,7 @@ use Rattle.raster.specs.declared.grid.Grid.{Grid}
 use Rattle.contours.specs.Edge.{edge, crossingAt, nothing}
 use Rattle.contours.specs.Square.{Joins}
 use Rattle.contours.specs.March.{march}
-use Rattle.contours.specs.Curve.{EdgeSet, EdgeMap, with, mapped, isSome, Joints, jointed, unjointed, jointsOf, Way, Curve, curve, goneTo, goTo, goOn, wayFrom, curveOf, curveFrom, Curves, curves, openStarts, firsts, curved, startFrom, piecesOf, contoursOf}
+use Rattle.contours.specs.Curve.{EdgeSet, EdgeMap, with, keyed, isSome, Joints, jointed, unjointed, jointsOf, Strand, Curve, curve, goneTo, goTo, goOn, strandFrom, curveOf, curveFrom, Curves, curves, openStarts, firsts, curved, startFrom, piecesOf, contoursOf}
 use Rattle.contours.specs.Chain.{Tables, inserted, blank, tablesOf, Walk, Chain, ended, stepTo, follow, chainOf, walkFrom, chainFrom, edgePoint, Chains, chains, startsAt, chained, startAt, chainAll, chainedPieces}
 use Rattle.contours.specs.Held.{markOf, HoldsMarks, orNothing, LeadsTo, HoldsNext, HoldsTables}
 use Rattle.contours.specs.Traced.{Below}
@@ -73,9 +73,9 @@ module _ (e : ℕ) where
   }
 
   -- next.insert(a, b)
-  pub next-mapped : (next : EdgeMap) (table : List ℕ) (a b : EdgeNo) → a .0 < e → b .0 < e → HoldsNext e next table → HoldsNext e (mapped a b next) (set table (a .0) (b .0))
-  unfolding mapped
-  next-mapped next table a b p q h = record {
+  pub next-keyed : (next : EdgeMap) (table : List ℕ) (a b : EdgeNo) → a .0 < e → b .0 < e → HoldsNext e next table → HoldsNext e (keyed a b next) (set table (a .0) (b .0))
+  unfolding keyed
+  next-keyed next table a b p q h = record {
     long = length-set table (a .0) (b .0) ∙ h .long;
     entry = λ i d. by-cases (eqb i (a .0))
         (λ t. rw t (ap (λ (k : ℕ). getD (set table (a .0) (b .0)) k 0) (eqb-true i (a .0) t) ∙ getD-set-same table (a .0) (b .0) 0 (omega (arith, h .long))))
@@ -100,7 +100,7 @@ module _ (e : ℕ) where
   unfolding over Each jointed inserted
   held-over [] b j t h = h
   held-over (s ∷ segs) b j t h = held-over segs (b .1) (jointed s j) (inserted s t) (record {
-    next = next-mapped (j .next) (t .next) (s .from) (s .to) (b .0 .from) (b .0 .to) (h .next);
+    next = next-keyed (j .next) (t .next) (s .from) (s .to) (b .0 .from) (b .0 .to) (h .next);
     marks = marks-led (j .hasPrev) (t .marks) (s .to) (b .0 .to) (h .marks);
   })
 
@@ -112,12 +112,12 @@ module _ (e : ℕ) where
 -- ---- each edge that a segment leaves has a next one
 
 some-stays : (k : EdgeNo) (segs : List Segment) → (j : Joints) → isSome (j .next k) ≡ true → isSome (over jointed segs j .next k) ≡ true
-unfolding over jointed mapped
+unfolding over jointed keyed
 some-stays k [] j h = h
 some-stays k (s ∷ segs) j h = some-stays k segs (jointed s j) (by-test (λ (o : Option EdgeNo). isSome o ≡ true) (eqb (k .0) (s .from .0)) _ _ (λ t. refl) (λ t. h))
 
 pub starts-known : (segs : List Segment) (j : Joints) → Each (λ (s : Segment). isSome (over jointed segs j .next (s .from)) ≡ true) segs
-unfolding over Each jointed mapped
+unfolding over Each jointed keyed
 starts-known [] j = tt
 starts-known (s ∷ segs) j = (some-stays (s .from) segs (jointed s j) (rw (eq-eqb (s .from .0) (s .from .0) refl) refl), starts-known segs (jointed s j))
 
@@ -137,7 +137,7 @@ lead-of e none l n d z = absurd (mathlib.Core.Bool.true≢false (sym (ap (λ (m 
 lead-of e (some m) l n d z = subst (λ (k : ℕ). k < e) (sym d) l
 
 module _ (e : ℕ) (few : e ≤ nothing) (next : EdgeMap) (table : List ℕ) (H : HoldsNext e next table) (hasPrev : EdgeSet) where
-  record SameWalk (v : Way) (w : Walk) : Type 0 where
+  record SameWalk (v : Strand) (w : Walk) : Type 0 where
     marks : HoldsMarks e (v .used) hasPrev (w .marks)
     ids : v .ids ≡ map edge (w .ids)
     cur : v .cur ≡ edge (w .cur)
@@ -148,16 +148,16 @@ module _ (e : ℕ) (few : e ≤ nothing) (next : EdgeMap) (table : List ℕ) (H 
     ids : k .ids ≡ map edge (c .ids)
     closed : k .closed ≡ c .closed
 
-  abbrev Same : Run Way Curve → Run Walk Chain → Type 0
+  abbrev Same : Run Strand Curve → Run Walk Chain → Type 0
   Same (on v) (on w) = SameWalk v w
   Same (on v) (out c) = ⊥
   Same (out k) (on w) = ⊥
   Same (out k) (out c) = SameChain k c
 
-  same-end : (v : Way) (w : Walk) (b : Bool) → SameWalk v w → SameChain (curve v b) (ended w b)
+  same-end : (v : Strand) (w : Walk) (b : Bool) → SameWalk v w → SameChain (curve v b) (ended w b)
   same-end v w b h = record { marks = h .marks; ids = h .ids; closed = refl }
 
-  same-step : (v : Way) (w : Walk) (n : EdgeNo) → SameWalk v w → n .0 < e → SameWalk (goneTo n v) (stepTo (n .0) w)
+  same-step : (v : Strand) (w : Walk) (n : EdgeNo) → SameWalk v w → n .0 < e → SameWalk (goneTo n v) (stepTo (n .0) w)
   same-step v w n h l = record {
     marks = marks-used e (v .used) hasPrev (w .marks) n l (h .marks);
     ids = ap (λ (r : List EdgeNo). r ++ (n ∷ [])) (h .ids) ∙ sym (map-more edge (w .ids) (n .0));
@@ -170,7 +170,7 @@ module _ (e : ℕ) (few : e ≤ nothing) (next : EdgeMap) (table : List ℕ) (H 
     abbrev followTo : ℕ → Walk → Run Walk Chain
     followTo n w = cond (eqb n nothing) (out (ended w false)) (cond (eqb n (s .0)) (out (ended w true)) (cond (eqb (getD (w .marks) n 0) 1) (out (ended w false)) (on (stepTo n w))))
 
-    same-to : (v : Way) (w : Walk) (o : Option EdgeNo) → SameWalk v w → LeadsTo e o → Same (goTo s v o) (followTo (orNothing o) w)
+    same-to : (v : Strand) (w : Walk) (o : Option EdgeNo) → SameWalk v w → LeadsTo e o → Same (goTo s v o) (followTo (orNothing o) w)
     unfolding goTo
     same-to v w none h l = same-end v w false h
     same-to v w (some m) h l =
@@ -180,7 +180,7 @@ module _ (e : ℕ) (few : e ≤ nothing) (next : EdgeMap) (table : List ℕ) (H 
         (λ a. rw a (same-end v w true h))
         (λ a. rw a (by-cases (v .used m) (λ b. rw b (same-end v w false h)) (λ b. rw b (same-step v w m h l)))))
 
-    same-turn : (i : ℕ) (r : Run Way Curve) (q : Run Walk Chain) → Same r q → Same (turn (goOn next s) i r) (turn (follow table (s .0)) i q)
+    same-turn : (i : ℕ) (r : Run Strand Curve) (q : Run Walk Chain) → Same r q → Same (turn (goOn next s) i r) (turn (follow table (s .0)) i q)
     unfolding turn goOn follow
     same-turn i (on v) (on w) h =
         subst (λ (n : ℕ). Same (goTo s v (next (v .cur))) (followTo n w)) (ap (λ (c : EdgeNo). orNothing (next c)) (h .cur) ∙ sym (H .entry (w .cur) (h .here)))
@@ -190,17 +190,17 @@ module _ (e : ℕ) (few : e ≤ nothing) (next : EdgeMap) (table : List ℕ) (H 
     same-turn i (out k) (out c) h = h
 
     same-run : (used : EdgeSet) (marks : List ℕ) → s .0 < e → HoldsMarks e used hasPrev marks
-        → Same (loop (turn (goOn next s)) 0 e (on (wayFrom used s))) (loop (turn (follow table (s .0))) 0 e (on (walkFrom marks (s .0))))
+        → Same (loop (turn (goOn next s)) 0 e (on (strandFrom used s))) (loop (turn (follow table (s .0))) 0 e (on (walkFrom marks (s .0))))
     same-run used marks b h =
-        loop-both (turn (goOn next s)) (turn (follow table (s .0))) (λ i r q. Same r q) 0 e (omega arith) (λ i r q a c d. same-turn i r q d) (on (wayFrom used s)) (on (walkFrom marks (s .0)))
+        loop-both (turn (goOn next s)) (turn (follow table (s .0))) (λ i r q. Same r q) 0 e (omega arith) (λ i r q a c d. same-turn i r q d) (on (strandFrom used s)) (on (walkFrom marks (s .0)))
         (record { marks = marks-used e used hasPrev marks s b h; ids = refl; cur = refl; here = b })
 
-    same-out : (r : Run Way Curve) (q : Run Walk Chain) → Same r q → IsOut q → IsOut r
+    same-out : (r : Run Strand Curve) (q : Run Walk Chain) → Same r q → IsOut q → IsOut r
     same-out (on v) (on w) h o = o
     same-out (on v) (out c) h o = absurd h
     same-out (out k) q h o = tt
 
-    same-result : (r : Run Way Curve) (q : Run Walk Chain) → Same r q → SameChain (curveOf r) (chainOf q)
+    same-result : (r : Run Strand Curve) (q : Run Walk Chain) → Same r q → SameChain (curveOf r) (chainOf q)
     unfolding curveOf chainOf
     same-result (on v) (on w) h = same-end v w false h
     same-result (on v) (out c) h = absurd h
@@ -212,11 +212,11 @@ module _ (e : ℕ) (few : e ≤ nothing) (next : EdgeMap) (table : List ℕ) (H 
     same-from used marks b h = same-result _ _ (same-run used marks b h)
 
     -- a curve ends before its turns do
-    pub curve-ends : (used : EdgeSet) (marks : List ℕ) → s .0 < e → HoldsMarks e used hasPrev marks → used s ≡ false → IsOut (loop (turn (goOn next s)) 0 e (on (wayFrom used s)))
+    pub curve-ends : (used : EdgeSet) (marks : List ℕ) → s .0 < e → HoldsMarks e used hasPrev marks → used s ≡ false → IsOut (loop (turn (goOn next s)) 0 e (on (strandFrom used s)))
     curve-ends used marks b h n =
         let c = chain-ends table e marks (s .0) (H .long) (record { to = λ i d z. lead-of e (next (edge i)) (H .leads i (omega (arith, H .long))) (getD table i 0) (H .entry i (omega (arith, H .long))) z }) (h .long) b
         (ap (λ (m : ℕ). eqb m 1) (h .mark (s .0) b) ∙ mark-used (used s) (hasPrev s) ∙ n) in
-        same-out (loop (turn (goOn next s)) 0 e (on (wayFrom used s))) (loop (turn (follow table (s .0))) 0 e (on (walkFrom marks (s .0)))) (same-run used marks b h) (subst IsOut (sym (c .is)) tt)
+        same-out (loop (turn (goOn next s)) 0 e (on (strandFrom used s))) (loop (turn (follow table (s .0))) 0 e (on (walkFrom marks (s .0)))) (same-run used marks b h) (subst IsOut (sym (c .is)) tt)
 
   -- ---- all curves
 

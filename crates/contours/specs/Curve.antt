@@ -37,8 +37,8 @@ isSome none = false
 isSome (some e) = true
 
 -- map.insert(a, b): of two inserted at one edge, the last one counts
-unfoldable pub mapped : EdgeNo → EdgeNo → EdgeMap → EdgeMap
-mapped a b map k = cond (sameEdge k a) (some b) (map k)
+unfoldable pub keyed : EdgeNo → EdgeNo → EdgeMap → EdgeMap
+keyed a b map k = cond (sameEdge k a) (some b) (map k)
 
 -- ---- the edge after an edge, and the edges that a segment leads into
 
@@ -48,7 +48,7 @@ pub record Joints : Type 0 where
 
 -- next.insert(a, b); has_prev.insert(b)
 unfoldable pub jointed : Segment → Joints → Joints
-jointed s t = record { next = mapped (s .from) (s .to) (t .next); hasPrev = with (s .to) (t .hasPrev) }
+jointed s t = record { next = keyed (s .from) (s .to) (t .next); hasPrev = with (s .to) (t .hasPrev) }
 
 abbrev pub unjointed : Joints
 unjointed = record { next = λ e. none; hasPrev = λ e. false }
@@ -58,7 +58,7 @@ jointsOf segs = over jointed segs unjointed
 
 -- ---- a curve: the edges from a first one on
 
-pub record Way : Type 0 where
+pub record Strand : Type 0 where
   pub used : EdgeSet
   pub ids : List EdgeNo
   pub cur : EdgeNo
@@ -68,35 +68,35 @@ pub record Curve : Type 0 where
   pub ids : List EdgeNo
   pub closed : Bool
 
-abbrev pub way : EdgeSet → List EdgeNo → EdgeNo → Way
-way used ids cur = record { used = used; ids = ids; cur = cur }
+abbrev pub strand : EdgeSet → List EdgeNo → EdgeNo → Strand
+strand used ids cur = record { used = used; ids = ids; cur = cur }
 
-abbrev pub curve : Way → Bool → Curve
+abbrev pub curve : Strand → Bool → Curve
 curve w closed = record { used = w .used; ids = w .ids; closed = closed }
 
 -- used.insert(n); ids.push(n); cur = n
-abbrev pub goneTo : EdgeNo → Way → Way
-goneTo n w = way (with n (w .used)) (w .ids ++ (n ∷ [])) n
+abbrev pub goneTo : EdgeNo → Strand → Strand
+goneTo n w = strand (with n (w .used)) (w .ids ++ (n ∷ [])) n
 
 -- a turn of `while let Some(&n) = next.get(&cur)`: it ends where no edge follows, closed where the first one does, and where a used one does
-unfoldable pub goTo : EdgeNo → Way → Option EdgeNo → Run Way Curve
+unfoldable pub goTo : EdgeNo → Strand → Option EdgeNo → Run Strand Curve
 goTo s w none = out (curve w false)
 goTo s w (some n) = cond (sameEdge n s) (out (curve w true)) (cond (w .used n) (out (curve w false)) (on (goneTo n w)))
 
-unfoldable pub goOn : EdgeMap → EdgeNo → ℕ → Way → Run Way Curve
+unfoldable pub goOn : EdgeMap → EdgeNo → ℕ → Strand → Run Strand Curve
 goOn next s k w = goTo s w (next (w .cur))
 
-abbrev pub wayFrom : EdgeSet → EdgeNo → Way
-wayFrom used s = way (with s used) (s ∷ []) s
+abbrev pub strandFrom : EdgeSet → EdgeNo → Strand
+strandFrom used s = strand (with s used) (s ∷ []) s
 
 -- the first case is not met (proofs/HoldLaws.antt `curve-ends`)
-unfoldable pub curveOf : Run Way Curve → Curve
+unfoldable pub curveOf : Run Strand Curve → Curve
 curveOf (on w) = curve w false
 curveOf (out c) = c
 
 -- the curve from edge s on; each turn uses an edge, so that of e edges e turns are enough
 unfoldable pub curveFrom : EdgeMap → ℕ → EdgeSet → EdgeNo → Curve
-curveFrom next e used s = curveOf (loop (turn (goOn next s)) 0 e (on (wayFrom used s)))
+curveFrom next e used s = curveOf (loop (turn (goOn next s)) 0 e (on (strandFrom used s)))
 
 -- ---- its points
 

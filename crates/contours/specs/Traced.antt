@@ -69,22 +69,22 @@ slices words marks pts = record { words = words; marks = marks; pts = pts }
 abbrev pub chainsIn : ℕ → Count → Slices → Chains
 chainsIn n c w = chains (w .marks) (piecesIn n c (w .words) (w .pts))
 
-module _ (g : Grid) (f : List Float) (level : Float) (n : ℕ) where
-  -- w becomes w′, whose chains are `after`
-  abbrev pub Becomes : Chains → Slices → Count → Slices → Type 0
-  Becomes after w c′ w′ = Traced g n after (w .words) (w .pts) (w′ .words) (w′ .marks) (w′ .pts) c′
+-- w becomes w′, whose chains are `after`
+abbrev pub Becomes : Grid → ℕ → Chains → Slices → Count → Slices → Type 0
+Becomes g n after w c′ w′ = Traced g n after (w .words) (w .pts) (w′ .words) (w′ .marks) (w′ .pts) c′
 
+module _ (g : Grid) (f : List Float) (level : Float) (n : ℕ) where
   -- the chain from edge s is there too
   abbrev pub TakenUp : ℕ → Count → Slices → Count → Slices → Type 0
-  TakenUp s c w c′ w′ = Becomes (chained (edgePoint g f level) (nextIn n (w .words)) (2 * n) s (chainsIn n c w)) w c′ w′
+  TakenUp s c w c′ w′ = Becomes g n (chained (edgePoint g f level) (nextIn n (w .words)) (2 * n) s (chainsIn n c w)) w c′ w′
 
   -- or not, where none starts
   abbrev pub Started : Bool → ℕ → Count → Slices → Count → Slices → Type 0
-  Started first s c w c′ w′ = Becomes (startAt (edgePoint g f level) (nextIn n (w .words)) (2 * n) first s (chainsIn n c w)) w c′ w′
+  Started first s c w c′ w′ = Becomes g n (startAt (edgePoint g f level) (nextIn n (w .words)) (2 * n) first s (chainsIn n c w)) w c′ w′
 
   -- so from each of the m segments
   abbrev pub AllStarted : Bool → ℕ → Count → Slices → Count → Slices → Type 0
-  AllStarted first m c w c′ w′ = Becomes (chainAll (edgePoint g f level) (nextIn n (w .words)) (2 * n) first (segmentsAt n m (w .words)) (chainsIn n c w)) w c′ w′
+  AllStarted first m c w c′ w′ = Becomes g n (chainAll (edgePoint g f level) (nextIn n (w .words)) (2 * n) first (segmentsAt n m (w .words)) (chainsIn n c w)) w c′ w′
 
 -- ---- the tables
 

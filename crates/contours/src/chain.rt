@@ -17,8 +17,8 @@ use super::edge::same_edge;
 use super::places::next_at;
 use super::places::rows_at;
 use super::places::words_end;
-use super::tables::after;
 use super::tables::is_used;
+use super::tables::next_of;
 use super::tables::use_edge;
 use geom::vec2::Vec2;
 use pieces::row::Count;
@@ -76,7 +76,7 @@ fn chain(
     let mut cur = s;
     let mut t = Trail { kept: 1, last: p };
     loop {
-        let n = after(next, cur);
+        let n = next_of(next, cur);
         if is_nothing(n) {
             return Chained {
                 kept: t.kept,

@@ -21,7 +21,7 @@ use setup::fill::fill_bytes;
 use setup::fill::fill_words;
 
 // The edge after e.
-pub fn after(next: &[u32], e: EdgeNo) -> EdgeNo
+pub fn next_of(next: &[u32], e: EdgeNo) -> EdgeNo
     requires { ⌜ e .0 < length (now next) ⌝ }
     ensures { λ n. ⌜ n ≡ edge (getD (now (next .entry)) (e .0) 0) ⌝ }
 {

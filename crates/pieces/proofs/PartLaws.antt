@@ -1,13 +1,13 @@
 -- The points of a part of a slice that is lent, and of the slice when the part is back. Assumes nothing.
-use mathlib.Core.Path.{_≡_, refl, sym, ap, _∙_}
+use mathlib.Core.Path.{_≡_, refl, sym, ap, _∙_, subst}
 use mathlib.Core.List.{List, [], _∷_, _++_}
 use Prim.Native.Nat.{ℕ, zero, suc, _+_, _-_, _*_, _≤_, _<_}
 use native.Mathlib.Omega.{arith}
 use lib.ListN.{length, getD, drop}
-use lib.Seq.{getD-take, getD-drop}
+use lib.Seq.{getD-take, getD-drop, ext-getD}
 use lib.Ieee.{Float, nan}
 use Rattle.loops.specs.Regions.{Fits, within, put}
-use Rattle.loops.proofs.RegionLaws.{put-back, put-before, put-after}
+use Rattle.loops.proofs.RegionLaws.{region-long, put-back, put-before, put-after}
 use Rattle.geom.specs.Vec.{v2}
 use Rattle.geom.specs.Region.{vertexOf}
 use Rattle.geom.specs.Points.{points}
@@ -32,6 +32,19 @@ module _ {A : Type 0} (d : A) where
 
     pub put-high : (i : ℕ) → e ≤ i → getD (put a e r w) i d ≡ getD w i d
     put-high i b = sym (one-get i (put a e r w)) ∙ ap (λ (q : List A). getD q 0 d) (put-after a e w r h l i (i + 1) b) ∙ one-get i w
+
+  -- a part of a part is a part
+  pub inner-part : (a e b f : ℕ) (w : List A) → Fits a e w → b ≤ f → a + f ≤ e → within b f (within a e w) ≡ within (a + b) (a + f) w
+  unfolding within
+  inner-part a e b f w h l k =
+      let v = within a e w in
+      let o = h .end in
+      let long : length v ≡ e - a = region-long a e w h in
+      let inner : length (within b f v) ≡ f - b = region-long b f v (record { start = l; end = omega (arith, h .start) }) in
+      let outer : length (within (a + b) (a + f) w) ≡ a + f - (a + b) = region-long (a + b) (a + f) w (record { start = omega arith; end = omega (arith, h .start) }) in
+      ext-getD d (within b f v) (within (a + b) (a + f) w) (omega (arith, inner, outer))
+      (λ i c. let s : i < f - b = subst (λ (m : ℕ). i < m) inner c in
+      within-get b f v i s ∙ within-get a e w (b + i) (omega (arith, s)) ∙ ap (λ (m : ℕ). getD w m d) (let z : a + (b + i) ≡ a + b + i = omega arith in z) ∙ sym (within-get (a + b) (a + f) w i (omega (arith, s))))
 
 -- ---- points
 

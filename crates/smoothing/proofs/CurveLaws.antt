@@ -1,7 +1,7 @@
 -- What smoothing keeps: a short piece, the number of points or fewer, and the ends of an open piece. Assumes nothing.
 use mathlib.Core.Path.{_≡_, refl, sym, ap, _∙_, subst}
 use mathlib.Core.Bool.{Bool, true, false}
-use mathlib.Core.List.{List, [], _∷_, _++_}
+use mathlib.Core.List.{List, [], _∷_, _++_, map}
 use mathlib.Core.Logic.{_⊎_, inl, inr}
 use Prim.Native.Nat.{ℕ, _+_, _-_, _*_, _%_, _≤_, _<_}
 use native.Mathlib.Omega.{arith}
@@ -11,13 +11,15 @@ use lib.Seq.{getD-set-other}
 use lib.Dec.{eqb, ltb}
 use lib.Ieee.{Float, nan}
 use borrow.Author.Tests.{ltb-true, ltb-false, eq-eqb, lt-ltb, eqb-true, eqb-false}
+use Rattle.loops.specs.Each.{Each}
 use Rattle.loops.specs.Loop.{loop}
 use Rattle.loops.proofs.Cases.{by-cases, never, or-right}
 use Rattle.loops.proofs.LoopLaws.{loop-keeps}
 use Rattle.geom.specs.Region.{before, after}
 use Rattle.geom.specs.Vec.{v2, distanceOf}
 use Rattle.geom.specs.declared.vec2.Vec2.{Vec2}
-use Rattle.smoothing.specs.Smooth.{nth, lastPoint, heldAt, averageAt, averaged, keepAt, spaced, samePoint, endedAt, resampled, smoothOf}
+use Rattle.pieces.specs.Piece.{Piece}
+use Rattle.smoothing.specs.Smooth.{nth, lastPoint, heldAt, averageAt, averaged, keepAt, spaced, samePoint, endedAt, resampled, smoothOf, smoothed, HasPoints}
 use Rattle.smoothing.proofs.StepLaws.{last-push, length-push}
 use Rattle.smoothing.proofs.SmoothLaws.{kept-all}
 
@@ -156,3 +158,9 @@ module _ (cell : Float) (ps : List Vec2) where
   unfolding smoothOf
   open-last = by-cases (ltb (length ps) 3) (λ t. rw t (inl refl))
       (λ t. rw t (subst (λ (p : Vec2). EndsAt p (resampled false cell (loop (λ i q. averaged false q) 0 3 ps))) (three-ends ps .last) (resampled-last cell (loop (λ i q. averaged false q) 0 3 ps))))
+
+-- no piece that has points loses all of them
+pub pieces-some : (cell : Float) (l : List Piece) → Each HasPoints l → Each HasPoints (map (smoothed cell) l)
+unfolding Each smoothed
+pieces-some cell [] h = tt
+pieces-some cell (p ∷ l) h = (smooth-some cell (p .points) (p .closed) (h .0), pieces-some cell l (h .1))

@@ -68,6 +68,9 @@ smoothOf closed cell ps = cond (ltb (length ps) 3) ps (resampled closed cell (lo
 unfoldable pub smoothed : Float → Piece → Piece
 smoothed cell p = record { points = smoothOf (p .closed) cell (p .points); closed = p .closed }
 
+abbrev pub HasPoints : Piece → Type 0
+HasPoints p = 0 < length (p .points)
+
 -- ---- in a lent slice
 
 -- the slice, and the old value of the point before the one to come

@@ -125,7 +125,7 @@ fn resample(pts: &mut [f64], n: usize, closed: bool, cell: f64) -> usize
 }
 
 // Smooths the n points; how many are left.
-pub fn smooth(pts: &mut [f64], n: usize, closed: bool, cell: f64) -> usize
+fn smooth(pts: &mut [f64], n: usize, closed: bool, cell: f64) -> usize
     requires { ⌜ 2 * n ≤ length (now pts) ⌝ }
     ensures { λ r. ⌜ Begins (smoothOf closed cell (points 0 n (now (pts .entry)))) n (now (pts .entry)) r (now (pts .exit)) ⌝ }
 {

@@ -46,8 +46,8 @@ follows c =
 abbrev n-at : tie.At-loop Inv-loop μ-loop → ℕ
 n-at c = getD (c .before .before .before .before .before .before .before .before .before .before .before .before .before .before .args .next .now) (c .loop .cur .0) 0
 
-n-is : (c : tie.After-after Inv-loop μ-loop) → c .after .result .0 ≡ n-at (c .before)
-n-is c = ap (λ (e : EdgeNo). e .0) (c .after .ensures)
+n-is : (c : tie.After-next-of Inv-loop μ-loop) → c .next-of .result .0 ≡ n-at (c .before)
+n-is c = ap (λ (e : EdgeNo). e .0) (c .next-of .ensures)
 
 -- it is one of the grid, and has its place in the tables
 leads : (c : tie.At-loop Inv-loop μ-loop) → (n-at c ≡ nothing → ⊥) → Between (c .before .before .before .before .before .before .before .before .before .before .before .before .before .before .args .g) (edge (n-at c))
@@ -97,8 +97,8 @@ loop-holds c =
       following = λ m w h b d e. rw (d, e, c .before .before .before .before .crossing .ensures) (following-none _ _ m w _ _ (h .room) b (h .unused) (omega (arith, h .marks-long, h .pts-long)));
     }
 
-after-requires : tie.Need-after-requires Inv-loop μ-loop
-after-requires c κs = let p = c .before .before .before .before .before .before .before .before .before .before .before .before .before .before .pre .1 in omega (arith, follows c .walked .here, p .next-long, p .marks-long)
+next-of-requires : tie.Need-next-of-requires Inv-loop μ-loop
+next-of-requires c κs = let p = c .before .before .before .before .before .before .before .before .before .before .before .before .before .before .pre .1 in omega (arith, follows c .walked .here, p .next-long, p .marks-long)
 
 is-nothing-requires : tie.Need-is-nothing-requires Inv-loop μ-loop
 is-nothing-requires c κs = tt
@@ -140,7 +140,7 @@ use-edge-requires-2 : tie.Need-use-edge-requires-2 Inv-loop μ-loop
 use-edge-requires-2 c κs = omega (arith, placed (c .before .before .before .before .before .before .before .before .before) (not-none (c .before .before .before .before .before .before)), follows (c .before .before .before .before .before .before .before .before .before) .walked .long, n-is (c .before .before .before .before .before .before .before .before))
 
 crossing-requires-2 : tie.Need-crossing-requires-2 Inv-loop μ-loop
-crossing-requires-2 c κs = (c .before .before .before .before .before .before .before .before .before .before .before .before .before .before .before .before .before .before .before .before .before .before .before .before .before .before .before .pre .0, subst (Between (c .before .before .before .before .before .before .before .before .before .before .before .before .before .before .before .before .before .before .before .before .before .before .before .before .before .before .before .args .g)) (sym (c .before .before .before .before .before .before .before .before .before .before .before .before .after .ensures)) (leads (c .before .before .before .before .before .before .before .before .before .before .before .before .before) (not-none (c .before .before .before .before .before .before .before .before .before .before))))
+crossing-requires-2 c κs = (c .before .before .before .before .before .before .before .before .before .before .before .before .before .before .before .before .before .before .before .before .before .before .before .before .before .before .before .pre .0, subst (Between (c .before .before .before .before .before .before .before .before .before .before .before .before .before .before .before .before .before .before .before .before .before .before .before .before .before .before .before .args .g)) (sym (c .before .before .before .before .before .before .before .before .before .before .before .before .next-of .ensures)) (leads (c .before .before .before .before .before .before .before .before .before .before .before .before .before) (not-none (c .before .before .before .before .before .before .before .before .before .before))))
 
 extend-requires : tie.Need-extend-requires Inv-loop μ-loop
 extend-requires c κs = point-room _ _ _ _ _ _ (c .before .before .before .before .before .before .before .before .before .before .before .before .before .before .before .before .before .before .before .before .before .before .before .before .before .before .before .before .pre .1 .room) _ _ _ _ _ (follows (c .before .before .before .before .before .before .before .before .before .before .before .before .before .before)) (placed (c .before .before .before .before .before .before .before .before .before .before .before .before .before .before) (not-none (c .before .before .before .before .before .before .before .before .before .before .before))) (fresh (c .before .before .before .before .before .before)) (wide (c .before .before .before .before .before .before .before .before .before .before .before .before .before .before .before .before .before .before .before .before .before .before .before .before .before .before .before .before))
@@ -165,7 +165,7 @@ loop-again c =
       following = λ m w h b d e.
           let n = length-set m (a .s .0) 1 in
           let o = length-set (a .marks .now) (a .s .0) 1 in
-          rw (x .1, x .0, c .before .before .before .crossing2 .ensures, c .before .before .before .before .before .before .before .use-edge2 .ensures, c .before .before .before .before .before .before .before .before .before .before .before .before .before .before .before .before .after .ensures)
+          rw (x .1, x .0, c .before .before .before .crossing2 .ensures, c .before .before .before .before .before .before .before .use-edge2 .ensures, c .before .before .before .before .before .before .before .before .before .before .before .before .before .before .before .before .next-of .ensures)
           (following-more _ _ m w _ _ (h .room) _ _ _ _ _ (l .loop .inv .following m w h b d e) refl (not-none (c .before .before .before .before .before .before .before .before .before .before .before .before .before .before)) (not-first (c .before .before .before .before .before .before .before .before .before .before .before .before)) (fresh (c .before .before .before .before .before .before .before .before .before))
           (omega (arith, placed l (not-none (c .before .before .before .before .before .before .before .before .before .before .before .before .before .before)), ap length d, ap length (c .before .before .before .before .before .before .before .before .before .before .before .before .before .before .before .before .before .before .before .before .before .before .before .before .before .use-edge .ensures))) (omega (arith, h .marks-long, h .pts-long)));
     }
@@ -180,7 +180,7 @@ chain-spec =
     crossing-requires
     put-requires
     loop-holds
-    after-requires
+    next-of-requires
     is-nothing-requires
     same-length
     same-length-2
