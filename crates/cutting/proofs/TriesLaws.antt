@@ -8,7 +8,7 @@ use native.Mathlib.Nat.{mul-pos, mod-eq-of-lt}
 use lib.ListN.{length, take, drop}
 use lib.Ieee.{Float}
 use Rattle.loops.specs.Loop.{Run, on, out, turn}
-use Rattle.loops.specs.Regions.{Fits, within, put}
+use Rattle.loops.specs.Regions.{Fits, within}
 use Rattle.loops.proofs.Cases.{or-left, or-right}
 use Rattle.loops.proofs.LoopLaws.{Going, going-none, going-on, going-out, going-end}
 use Rattle.loops.specs.Frame.{Only}
@@ -16,17 +16,16 @@ use Rattle.loops.proofs.FrameLaws.{put-only, only-same, only-more, only-before,
 use Rattle.geom.specs.Points.{points}
 use Rattle.geom.specs.declared.vec2.Vec2.{Vec2}
 use Rattle.geom.proofs.PointLaws.{points-length}
-use Rattle.raster.specs.Contact.{samplesOf, Rim}
 use Rattle.raster.specs.Log.{st, Ready}
 use Rattle.setup.specs.Layout.{most, guideFrom, rimFrom}
-use Rattle.setup.specs.Place.{Walls, allowedAt, freeAt}
+use Rattle.setup.specs.Place.{allowedAt, freeAt}
 use Rattle.setup.specs.declared.Setup.{Setup}
 use Rattle.links.specs.Path.{wallIn, Fitted}
 use Rattle.links.proofs.LinkLaws.{wall-kept, fitted-kept}
 use Rattle.passes.specs.Shifts.{satAdd}
-use Rattle.passes.specs.Guide.{walkOf, blendOf, flat, pointsIn, bentOr}
+use Rattle.passes.specs.Guide.{walkOf, blendOf, flat, pointsIn, bentOr, blendIn, laidIn, Ahead}
 use Rattle.passes.specs.Start.{nearOf, startOf}
-use Rattle.passes.specs.Attempt.{Attempted, att, Outcome, oc, answerOf, Answered, ans, answered, startBy, Spread}
+use Rattle.passes.specs.Attempt.{Attempted, att, Outcome, oc, answerOf, Answered, ans, answered, startBy}
 use Rattle.passes.specs.declared.attempt.Attempt.{Attempt}
 use Rattle.passes.specs.declared.attempt.Attempt.the-variants.{Full, Worth, Nothing}
 use Rattle.passes.specs.declared.start.Place.{Place}
@@ -94,54 +93,42 @@ module _ (s : Setup) (vs : List Float) (lens mp : List ℕ) (w : List Float) (F 
   pub start-asks : (closed : Bool) (pos : Place) (near : ℕ) → near ≡ cond closed (nearOf (pointsIn from m w) pos) 0 → (k : ℕ) → k < startsOf closed → (near < m) × ((m ≤ 2 * most) × (k < 4))
   start-asks closed pos near N k h = (near-low (pointsIn from m w) m (points-length 0 m (within from (from + 2 * m) w)) (A .some) pos closed near N, (piece-few, omega (arith, starts-few closed)))
 
-  module _ (closed : Bool) (start : ℕ) (L : start + guideLong m closed ≤ 2 * m) (n at rim long : ℕ) (N : n ≡ cells) (T : at ≡ guideFrom n) (I : rim ≡ rimFrom n) (G : long ≡ guideLong m closed) where
-    pub spread : Spread s vs lens w n rim from m start long at
-    spread =
-        let p = long-some m closed in
+  module _ (closed : Bool) (start : ℕ) (L : start + guideLong m closed ≤ 2 * m) (long : ℕ) (G : long ≡ guideLong m closed) where
+    ahead : Ahead from m start long (guideFrom cells) (rimFrom cells)
+    ahead =
+        let g = long-some m closed .1 in
         let c = some-cell in
         let lo = A .low in
         let hi = A .high in
-        let so = A .some in
-        let f = F .long in
-        let g₀ = p .0 in
-        let g₁ = p .1 in
-        let i : 32 * cells ≡ rim = omega arith in
-        record {
-          walls = subst (λ (k : ℕ). Walls s (within 0 k w) vs lens) (sym N) (F .walls);
-          round = subst (λ (k : ℕ). Rim (samplesOf (s .samples)) (within k (k + 4096) w)) i (F .rim);
-          ahead = record { before = omega arith; within = omega arith; round = omega arith };
-          low = omega arith;
-          high = omega arith;
-          end = omega arith;
-          some = omega arith;
-        }
+        record { before = hi; within = omega arith; round = omega arith }
+
+    pub start-fits : Ahead from m start long (guideFrom cells) (rimFrom cells) × (1 ≤ long)
+    start-fits = let g = long-some m closed .0 in let so = A .some in (ahead, omega arith)
 
     abbrev trod : List Vec2
     trod = walkOf (pointsIn from m w) start long
 
-    pub try-only : (w₁ : List Float) → w₁ ≡ put at (at + 2 * long) (flat (bentOr trod (blendOf s (allowedAt s (within 0 n w) vs lens) (freeAt s mp) trod))) w → Only (guideFrom cells) (23 * cells) w w₁
+    pub try-only : (w₁ : List Float) → w₁ ≡ laidIn s vs lens mp cells from m start long (guideFrom cells) w → Only (guideFrom cells) (23 * cells) w w₁
     try-only w₁ W =
-        let a = spread .ahead .within in
-        let hi = spread .high in
-        let h : Fits at (at + 2 * long) w = record { start = omega arith; end = a } in
-        let b : List Vec2 = bentOr trod (blendOf s (allowedAt s (within 0 n w) vs lens) (freeAt s mp) trod) in
-        let l : length (flat b) ≡ at + 2 * long - at = omega (arith, flat-length b, bent-long s (allowedAt s (within 0 n w) vs lens) (freeAt s mp) trod long (walk-length (pointsIn from m w) start long) (blendOf s (allowedAt s (within 0 n w) vs lens) (freeAt s mp) trod) refl) in
+        let at : ℕ = guideFrom cells in
+        let f = F .long in
+        let h : Fits at (at + 2 * long) w = record { start = omega arith; end = omega (arith, ahead .within, F .long) } in
+        let b : List Vec2 = bentOr trod (blendIn s vs lens mp cells from m start long w) in
+        let l : length (flat b) ≡ at + 2 * long - at = omega (arith, flat-length b, bent-long s (allowedAt s (wallIn s w) vs lens) (freeAt s mp) trod long (walk-length (pointsIn from m w) start long) (blendIn s vs lens mp cells from m start long w) refl) in
         let c = some-cell in
         let lo = A .low in
         let to = A .high in
         let g = long-some m closed .1 in
-        let f = F .long in
         only-wider at (at + 2 * long) w w₁ h (subst (Only at (at + 2 * long) w) (sym W) (put-only at (at + 2 * long) w h (flat b) l)) (guideFrom cells) (23 * cells) (omega arith) (omega arith) (omega arith)
 
     -- the guide that was tried is that of the definition
     pub try-is : (kept : ℕ) (l : List ℕ) (o : List Float) (c : Answered)
-        → c ≡ answered (startBy s (allowedAt s (within 0 n w) vs lens) (blendOf s (allowedAt s (within 0 n w) vs lens) (freeAt s mp) trod) kept mp l o)
+        → c ≡ answered (startBy s (allowedAt s (wallIn s w) vs lens) (blendIn s vs lens mp cells from m start long w) kept mp l o)
         → c ≡ answered (startBy s (allowedAt s (wallIn s w) vs lens) (blendOf s (allowedAt s (wallIn s w) vs lens) (freeAt s mp) (guideOf (pointsIn from m w) closed start)) kept mp l o)
     unfolding guideOf
     try-is kept l o c d =
         let e : long ≡ guideLong (length (pointsIn from m w)) closed = G ∙ ap (λ (k : ℕ). guideLong k closed) (sym (points-length 0 m (within from (from + 2 * m) w))) in
-        d ∙ ap (λ (k : ℕ). answered (startBy s (allowedAt s (within 0 k w) vs lens) (blendOf s (allowedAt s (within 0 k w) vs lens) (freeAt s mp) trod) kept mp l o)) N
-        ∙ ap (λ (k : ℕ). answered (startBy s (allowedAt s (wallIn s w) vs lens) (blendOf s (allowedAt s (wallIn s w) vs lens) (freeAt s mp) (walkOf (pointsIn from m w) start k)) kept mp l o)) e
+        d ∙ ap (λ (k : ℕ). answered (startBy s (allowedAt s (wallIn s w) vs lens) (blendOf s (allowedAt s (wallIn s w) vs lens) (freeAt s mp) (walkOf (pointsIn from m w) start k)) kept mp l o)) e
 
 -- ---- the loop of `try_piece`
 

@@ -19,7 +19,6 @@ use passes::start::Place;
 use passes::start::near_start;
 use passes::start::start_of;
 use setup::Setup;
-use setup::layout;
 
 // How many starts are tried.
 fn starts(closed: bool) -> usize
@@ -78,9 +77,6 @@ fn try_from(
     ensures { λ _. ⌜ Only (guideFrom (cellsOf s)) (pathEnd (cellsOf s)) (now (w .entry)) (now (w .exit)) ⌝ }
     ensures { λ r. ⌜ ans (now (log .exit)) (now (triples .exit)) r ≡ answered (startBy s (allowedAt s (wallIn s (now (w .entry))) (now (vs .entry)) (now (lens .entry))) (blendOf s (allowedAt s (wallIn s (now (w .entry))) (now (vs .entry)) (now (lens .entry))) (freeAt s (now (map .entry))) (guideOf (pointsIn from m (now (w .entry))) closed start)) kept (now (map .entry)) (now (log .entry)) (now (triples .entry))) ⌝ }
 {
-    let n = layout::cells(s.grid);
-    let at = layout::guide(n);
-    let rim = layout::rim(n);
     let points = long(m, closed);
     try_start(
         s,
@@ -91,13 +87,10 @@ fn try_from(
         w,
         triples,
         kept,
-        n,
-        rim,
         from,
         m,
         start,
         points,
-        at,
     )
 }
 

@@ -25,7 +25,7 @@ use Rattle.setup.specs.declared.Setup.{Setup}
 use Rattle.passes.specs.declared.guide.Blend.{Blend}
 use Rattle.passes.specs.declared.guide.Blend.the-variants.{By, Nothing}
 use Rattle.passes.specs.Simulate.{nowhere}
-use Rattle.passes.specs.Guide.{addLeg, totalOf, alongOf, bentAt, Bend, bd, afterOf, beforeOf, bendStep, bentEnd, bentOf, farOf, chosen, lenOf, attempt, chooseOf}
+use Rattle.passes.specs.Guide.{addLeg, pathLength, lengthSoFar, bentAt, Bend, bd, afterOf, beforeOf, bendStep, bentEnd, bentOf, farOf, chosen, lenOf, attempt, chooseOf}
 use Rattle.passes.proofs.SimulateLaws.{point-in}
 
 -- ---- the length
@@ -35,8 +35,8 @@ module _ (w : List Float) (n : ℕ) where
   unfolding addLeg
   leg-added k t a b d h A B D = rw (point-in w n (k - 1) (omega arith), point-in w n k h, ← A, ← B, ← D)
 
-  pub total-is : (t : Float) → t ≡ loop (addLeg (points 0 n w)) 1 n f0 → t ≡ totalOf (points 0 n w)
-  unfolding totalOf
+  pub total-is : (t : Float) → t ≡ loop (addLeg (points 0 n w)) 1 n f0 → t ≡ pathLength (points 0 n w)
+  unfolding pathLength
   total-is t e = rw (points-length 0 n w) e
 
   pub after-next : (k : ℕ) (a : Vec2) → k + 1 < n → a ≡ vertexOf w (k + 1) → a ≡ afterOf (points 0 n w) k
@@ -52,12 +52,12 @@ pub after-long : (w w₀ : List Float) (k : ℕ) (a : Vec2) → length w ≡ len
 after-long w w₀ k a e A = A ∙ ap (λ (i : ℕ). afterOf (points 0 (i / 2) w) k) e
 
 module _ (k : ℕ) (s : Float) (b p : Vec2) where
-  pub along-more : 0 < k → (d : Float) → d ≡ distanceOf b p → add binary64 s d ≡ alongOf k s b p
-  unfolding alongOf
+  pub along-more : 0 < k → (d : Float) → d ≡ distanceOf b p → add binary64 s d ≡ lengthSoFar k s b p
+  unfolding lengthSoFar
   along-more h d D = rw (lt-ltb 0 k h, ← D)
 
-  pub along-none : k ≤ 0 → s ≡ alongOf k s b p
-  unfolding alongOf
+  pub along-none : k ≤ 0 → s ≡ lengthSoFar k s b p
+  unfolding lengthSoFar
   along-none h = rw (le-ltb 0 k h)
 
 pub bent-is : (len far : Float) (p a b : Vec2) (s : Float) (d t : Vec2) (c : Float) (u x y z q : Vec2) → d ≡ difference a b → t ≡ normalizedOf d → c ≡ cosOf (div binary64 (mul binary64 pi s) len)
@@ -78,7 +78,7 @@ module _ (len far : Float) (pts : List Vec2) (h : 0 < length pts) where
   all = loop (turn (bendStep len far pts)) 0 (length pts) (on (bd f0 []))
 
   stays : le len f0 ≡ true → bentOf len far pts ≡ pts
-  unfolding bentOf bentEnd bendStep alongOf
+  unfolding bentOf bentEnd bendStep lengthSoFar
   stays e = ap bentEnd (going-out (bendStep len far pts) 0 (length pts) (on (bd f0 [])) (bd f0 []) 0 pts (going-none _ _ _ _) h (rw e))
 
   -- what begins with q goes on to begin with it
@@ -103,7 +103,7 @@ module _ (len far : Float) (pts : List Vec2) (h : 0 < length pts) where
   first = bentAt len far (getD pts 0 nowhere) (afterOf pts 0) (getD pts 0 nowhere) f0
 
   one-turn : le len f0 ≡ false → loop (turn (bendStep len far pts)) 0 1 (on (bd f0 [])) ≡ on (bd f0 (first ∷ []))
-  unfolding loop turns turn bendStep alongOf beforeOf
+  unfolding loop turns turn bendStep lengthSoFar beforeOf
   one-turn e = rw e
 
   bends : le len f0 ≡ false → getD (bentOf len far pts) 0 nowhere ≡ first
@@ -162,7 +162,7 @@ module _ (len far : Float) (w₀ : List Float) (n : ℕ) where
         let e : n ≡ k = omega (arith, I .going .high) in
         rw (points-length 0 n w₀) (ap (λ (i : ℕ). points 0 i w) e ∙ ap bentEnd (going-end _ _ _ _ _ _ (I .going) h))
 
-    module _ (h : k < n) (p : Vec2) (P : p ≡ vertexOf w k) (t : Float) (T : t ≡ alongOf k s b p) where
+    module _ (h : k < n) (p : Vec2) (P : p ≡ vertexOf w k) (t : Float) (T : t ≡ lengthSoFar k s b p) where
       here : p ≡ getD (points 0 n w₀) k nowhere
       here = P ∙ I .rest k (omega arith) ∙ sym (point-in w₀ n k h)
 
@@ -170,8 +170,8 @@ module _ (len far : Float) (w₀ : List Float) (n : ℕ) where
       unfolding beforeOf
       there = rw (point-in w₀ n (k - 1) (omega arith), point-in w₀ n k h) (I .before)
 
-      so-far : t ≡ alongOf k s (beforeOf (points 0 n w₀) k) (getD (points 0 n w₀) k nowhere)
-      so-far = T ∙ ap (λ (c : Vec2). alongOf k s c p) there ∙ ap (alongOf k s (beforeOf (points 0 n w₀) k)) here
+      so-far : t ≡ lengthSoFar k s (beforeOf (points 0 n w₀) k) (getD (points 0 n w₀) k nowhere)
+      so-far = T ∙ ap (λ (c : Vec2). lengthSoFar k s c p) there ∙ ap (lengthSoFar k s (beforeOf (points 0 n w₀) k)) here
 
       pub bending-out : le len t ≡ true → points 0 n w ≡ bentOf len far (points 0 n w₀)
       unfolding bentOf bentEnd bendStep
@@ -233,7 +233,7 @@ starts-no allowed free q a A e = rw (← A, e)
 pub starts-yes : (allowed free : Vec2 → Bool) (q : Vec2) (a f : Bool) → a ≡ allowed q → a ≡ true → f ≡ free q → f ≡ (allowed q && free q)
 starts-yes allowed free q a f A e F = rw (← A, e) F
 
-pub len-is : (s : Setup) (pts : List Vec2) (t len : Float) → t ≡ totalOf pts → len ≡ minOf (mul binary64 f3 (s .r)) (mul binary64 half t) → len ≡ lenOf s pts
+pub len-is : (s : Setup) (pts : List Vec2) (t len : Float) → t ≡ pathLength pts → len ≡ minOf (mul binary64 f3 (s .r)) (mul binary64 half t) → len ≡ lenOf s pts
 unfolding lenOf
 len-is s pts t len T L = rw (← T) L
 

@@ -12,17 +12,20 @@ use Rattle.loops.proofs.Cases.{never}
 use Rattle.loops.proofs.RegionLaws.{put-back, put-before, put-after, put-length}
 use Rattle.geom.specs.Points.{points}
 use Rattle.geom.specs.declared.vec2.Vec2.{Vec2}
+use Rattle.raster.specs.Grid.{Over}
 use Rattle.raster.specs.Contact.{samplesOf, Rim}
 use Rattle.raster.specs.Log.{st, Ready}
 use Rattle.raster.proofs.LogLaws.{Kept}
-use Rattle.setup.specs.Place.{Walls, allowedAt, freeAt}
+use Rattle.setup.specs.Layout.{guideFrom, rimFrom}
+use Rattle.setup.specs.Place.{Walls, allowedAt, freeAt, cellsOf}
 use Rattle.setup.specs.declared.Setup.{Setup}
+use Rattle.links.specs.Path.{wallIn, Fitted}
 use Rattle.events.specs.Chunk.{Point, Chunk, Entry, Job}
 use Rattle.events.specs.Events.{state, step, withdrawn}
 use Rattle.passes.specs.Simulate.{Pass, simulateOf}
-use Rattle.passes.specs.Guide.{blendOf, walkOf, flat, pointsIn, bentOr, isSome}
+use Rattle.passes.specs.Guide.{blendOf, walkOf, flat, pointsIn, bentOr, blendIn, laidIn, isSome, Ahead}
 use Rattle.passes.specs.declared.attempt.Attempt.the-variants.{Nothing}
-use Rattle.passes.specs.Attempt.{answerOf, Answered, ans, answered, outcomeOf, startBy, Spread}
+use Rattle.passes.specs.Attempt.{answerOf, Answered, ans, answered, outcomeOf, startBy}
 use Rattle.passes.specs.Tried.{jobAt, Measured}
 use Rattle.passes.proofs.LayLaws.{flat-length, points-flat, walk-length, part-half, part-some}
 use Rattle.passes.proofs.BlendLaws.{blend-begins, blend-length}
@@ -61,6 +64,16 @@ pub bent-long : (s : Setup) (allowed free : Vec2 → Bool) (pts : List Vec2) (n 
 unfolding bentOr
 bent-long s allowed free pts n e none d = e
 bent-long s allowed free pts n e (some l) d = blend-length s allowed free pts l d ∙ e
+
+-- in the workspace: the wall distances first, the piece, the guide behind it, the rim behind that
+pub record Spread (s : Setup) (vs : List Float) (lens : List ℕ) (w : List Float) (cells rim from m start n at : ℕ) : Type 0 where
+  pub walls : Walls s (within 0 cells w) vs lens
+  pub round : Rim (samplesOf (s .samples)) (within rim (rim + 4096) w)
+  pub ahead : Ahead from m start n at (length w)
+  pub low : cells ≤ at
+  pub high : at + 2 * n ≤ rim
+  pub end : rim + 4096 ≤ length w
+  pub some : 1 ≤ n
 
 module _ (s : Setup) (vs : List Float) (lens : List ℕ) (w : List Float) (cells rim from m start n at : ℕ) (A : Spread s vs lens w cells rim from m start n at) (mp : List ℕ) where
   abbrev trod : List Vec2
@@ -117,3 +130,31 @@ module _ (s : Setup) (vs : List Float) (lens : List ℕ) (w : List Float) (cells
 
   pub start-none : (kept : ℕ) (l : List ℕ) (o : List Float) → false ≡ isSome blend → ans l o (Nothing 0) ≡ answered (startBy s (allowedAt s (within 0 cells w) vs lens) blend kept mp l o)
   start-none kept l o e = none-by blend kept l o e
+
+-- where the layout has them
+module _ (s : Setup) (vs : List Float) (lens mp : List ℕ) (w : List Float) (F : Fitted s vs lens mp w) (from m start n : ℕ) (A : Ahead from m start n (guideFrom (cellsOf s)) (rimFrom (cellsOf s))) (O : 1 ≤ n)
+    (cells at : ℕ) (N : cells ≡ cellsOf s) (T : at ≡ guideFrom cells) where
+  pub start-ahead : Ahead from m start n at (length w)
+  start-ahead = record { before = omega (arith, A .before); within = omega (arith, A .within, F .long); round = A .round }
+
+  pub start-lays : Walls s (within 0 cells w) vs lens × (Over (s .grid) (length mp) × (Ahead from m start n at (length w) × ((cells ≤ at) × (1 ≤ n))))
+  start-lays = (subst (λ (k : ℕ). Walls s (within 0 k w) vs lens) (sym N) (F .walls), (F .over, (start-ahead, (omega arith, O))))
+
+  pub start-spread : (rim : ℕ) → rim ≡ rimFrom cells → Spread s vs lens w cells rim from m start n at
+  start-spread rim I = record {
+    walls = start-lays .0;
+    round = subst (λ (k : ℕ). Rim (samplesOf (s .samples)) (within k (k + 4096) w)) (let i : 32 * cellsOf s ≡ rim = omega arith in i) (F .rim);
+    ahead = start-ahead;
+    low = omega arith;
+    high = omega (arith, A .within);
+    end = omega (arith, F .long);
+    some = O;
+  }
+
+  pub start-laid : (w₁ : List Float) → w₁ ≡ laidIn s vs lens mp cells from m start n at w → w₁ ≡ laidIn s vs lens mp (cellsOf s) from m start n (guideFrom (cellsOf s)) w
+  start-laid w₁ W =
+      W ∙ ap (λ (k : ℕ). laidIn s vs lens mp cells from m start n k w) T ∙ ap (λ (k : ℕ). laidIn s vs lens mp k from m start n (guideFrom k) w) N
+
+  pub start-is : (kept : ℕ) (l : List ℕ) (o : List Float) (c : Answered) → c ≡ answered (startBy s (allowedAt s (within 0 cells w) vs lens) (blendIn s vs lens mp cells from m start n w) kept mp l o)
+      → c ≡ answered (startBy s (allowedAt s (wallIn s w) vs lens) (blendIn s vs lens mp (cellsOf s) from m start n w) kept mp l o)
+  start-is kept l o c d = d ∙ ap (λ (k : ℕ). answered (startBy s (allowedAt s (within 0 k w) vs lens) (blendIn s vs lens mp k from m start n w) kept mp l o)) N

@@ -18,7 +18,7 @@ use Rattle.geom.specs.declared.vec2.Vec2.{Vec2}
 use Rattle.events.specs.Chunk.{Point}
 use Rattle.events.specs.Read.{spotAt, pointAt, pointsFrom}
 use Rattle.passes.specs.Simulate.{nowhere}
-use Rattle.passes.specs.Guide.{addLeg, totalOf}
+use Rattle.passes.specs.Guide.{addLeg, pathLength}
 use Rattle.passes.specs.Worth.{c05, wantedOf, spotsFrom, worthOf}
 
 module _ (ts : List Float) (first : ℕ) where
@@ -53,8 +53,8 @@ module _ (ts : List Float) (first : ℕ) where
         let q : b ≡ getD (spotsFrom ts first n) k nowhere = B ∙ sym (spots-get n k h) in
         rw (← p, ← q, ← D)
 
-    pub spots-total : (t : Float) → t ≡ loop (addLeg (spotsFrom ts first n)) 1 n f0 → t ≡ totalOf (spotsFrom ts first n)
-    unfolding totalOf
+    pub spots-total : (t : Float) → t ≡ loop (addLeg (spotsFrom ts first n)) 1 n f0 → t ≡ pathLength (spotsFrom ts first n)
+    unfolding pathLength
     spots-total t e = rw (spots-length n) e
 
 -- ---- worth
@@ -69,7 +69,7 @@ four-least m h = omega arith
 pub four-over : (m : ℕ) → 4 ≤ m → m ≡ max m 4
 four-over m h = omega arith
 
-module _ (cell : Float) (ts : List Float) (first n removed : ℕ) (long : Float) (L : long ≡ totalOf (spotsFrom ts first n)) (least : ℕ) (W : least ≡ wantedOf long cell) where
+module _ (cell : Float) (ts : List Float) (first n removed : ℕ) (long : Float) (L : long ≡ pathLength (spotsFrom ts first n)) (least : ℕ) (W : least ≡ wantedOf long cell) where
   pub worth-few : removed < least → false ≡ worthOf cell (spotsFrom ts first n) removed
   unfolding worthOf
   worth-few h = rw (← L, ← W, lt-ltb removed least h)
@@ -88,7 +88,7 @@ module _ (cell : Float) (ts : List Float) (first n removed : ℕ) (long : Float)
 pub worth-points : (cell : Float) (ts : List Float) (first n removed : ℕ) → worthOf cell (spotsFrom ts first n) removed ≡ true → 2 ≤ n
 unfolding worthOf
 worth-points cell ts first n removed e =
-    let d = neither (ltb removed (wantedOf (totalOf (spotsFrom ts first n)) cell)) (ltb (length (spotsFrom ts first n)) 2) (not-true _ e) in
+    let d = neither (ltb removed (wantedOf (pathLength (spotsFrom ts first n)) cell)) (ltb (length (spotsFrom ts first n)) 2) (not-true _ e) in
     omega (arith, spots-length ts first n, ltb-false (length (spotsFrom ts first n)) 2 (d .1))
 
 -- ---- document 01: with cell 1, length 100 wants 5 and length 60 wants 4

@@ -1,17 +1,12 @@
 -- A guide tried: `simulate`, then `undo`, and whether the pass was worth it, as `cut_piece` of adaptive.rs has it. Definitions only.
-use Prim.Native.Nat.{ℕ, _+_, _*_, _≤_}
+use Prim.Native.Nat.{ℕ}
 use mathlib.Core.Bool.{Bool, false, cond}
 use mathlib.Core.List.{List}
 use mathlib.Core.Option.{Option, none, some}
-use lib.ListN.{length}
 use lib.Ieee.{Float}
-use Rattle.loops.specs.Regions.{within}
 use Rattle.geom.specs.declared.vec2.Vec2.{Vec2}
-use Rattle.raster.specs.Contact.{samplesOf, Rim}
-use Rattle.setup.specs.Place.{Walls}
 use Rattle.setup.specs.declared.Setup.{Setup}
 use Rattle.passes.specs.Simulate.{Pass, simulateOf}
-use Rattle.passes.specs.Guide.{Ahead}
 use Rattle.passes.specs.Worth.{spotsFrom, worthOf}
 use Rattle.passes.specs.declared.attempt.Attempt.{Attempt}
 use Rattle.passes.specs.declared.attempt.Attempt.the-variants.{Full, Worth, Nothing}
@@ -63,13 +58,3 @@ outcomeOf s allowed pts kept m l o = judgedBy (s .grid .cell) kept (simulateOf s
 unfoldable pub startBy : Setup → (Vec2 → Bool) → Option (List Vec2) → ℕ → List ℕ → List ℕ → List Float → Outcome
 startBy s allowed none kept m l o = oc l o (att false false 0 0 0)
 startBy s allowed (some pts) kept m l o = outcomeOf s allowed pts kept m l o
-
--- in the workspace: the wall distances first, the piece, the guide behind it, the rim behind that
-pub record Spread (s : Setup) (vs : List Float) (lens : List ℕ) (w : List Float) (cells rim from m start n at : ℕ) : Type 0 where
-  pub walls : Walls s (within 0 cells w) vs lens
-  pub round : Rim (samplesOf (s .samples)) (within rim (rim + 4096) w)
-  pub ahead : Ahead from m start n at (length w)
-  pub low : cells ≤ at
-  pub high : at + 2 * n ≤ rim
-  pub end : rim + 4096 ≤ length w
-  pub some : 1 ≤ n

@@ -14,7 +14,7 @@ use Rattle.numbers.specs.Small.{f1, f2, f3, half}
 use Rattle.geom.specs.Vec.{f0, sum, difference, scaled, perpOf, distanceOf, normalizedOf}
 use Rattle.geom.specs.Points.{points}
 use Rattle.geom.specs.declared.vec2.Vec2.{Vec2}
-use Rattle.setup.specs.Place.{biteOf}
+use Rattle.setup.specs.Place.{biteOf, allowedAt, freeAt}
 use Rattle.setup.specs.declared.Setup.{Setup}
 use Rattle.passes.specs.Simulate.{nowhere}
 use Rattle.passes.specs.declared.guide.Blend.{Blend}
@@ -25,14 +25,14 @@ use Rattle.passes.specs.declared.guide.Blend.the-variants.{By, Nothing}
 unfoldable pub addLeg : List Vec2 → ℕ → Float → Float
 addLeg pts k t = add binary64 t (distanceOf (getD pts (k - 1) nowhere) (getD pts k nowhere))
 
-unfoldable pub totalOf : List Vec2 → Float
-totalOf pts = loop (addLeg pts) 1 (length pts) f0
+unfoldable pub pathLength : List Vec2 → Float
+pathLength pts = loop (addLeg pts) 1 (length pts) f0
 
 -- ---- the guide bent out by `far` at its start, and by less up to the length `len`
 
 -- the length so far, b being the point before p
-unfoldable pub alongOf : ℕ → Float → Vec2 → Vec2 → Float
-alongOf k s b p = cond (ltb 0 k) (add binary64 s (distanceOf b p)) s
+unfoldable pub lengthSoFar : ℕ → Float → Vec2 → Vec2 → Float
+lengthSoFar k s b p = cond (ltb 0 k) (add binary64 s (distanceOf b p)) s
 
 -- p + t.perp() * far * 0.5 * (1.0 + (PI * s / len).cos()), where t is (a - b).normalized()
 unfoldable pub bentAt : Float → Float → Vec2 → Vec2 → Vec2 → Float → Vec2
@@ -58,7 +58,7 @@ beforeOf pts k = cond (ltb 0 k) (getD pts (k - 1) nowhere) (getD pts k nowhere)
 unfoldable pub bendStep : Float → Float → List Vec2 → ℕ → Bend → Run Bend (List Vec2)
 bendStep len far pts k t =
     let p = getD pts k nowhere in
-    let s = alongOf k (t .along) (beforeOf pts k) p in
+    let s = lengthSoFar k (t .along) (beforeOf pts k) p in
     cond (le len s) (out (t .res ++ drop k pts)) (on (bd s (t .res ++ (bentAt len far p (afterOf pts k) (beforeOf pts k) s ∷ []))))
 
 unfoldable pub bentEnd : Run Bend (List Vec2) → List Vec2
@@ -83,7 +83,7 @@ chosen (out b) = b
 
 -- (3.0 * r).min(0.5 * total)
 unfoldable pub lenOf : Setup → List Vec2 → Float
-lenOf s pts = minOf (mul binary64 f3 (s .r)) (mul binary64 half (totalOf pts))
+lenOf s pts = minOf (mul binary64 f3 (s .r)) (mul binary64 half (pathLength pts))
 
 module _ (s : Setup) (allowed free : Vec2 → Bool) (pts : List Vec2) where
   unfoldable pub attempt : Float → ℕ → Unit {0} → Run (Unit {0}) Blend
@@ -131,6 +131,16 @@ laid at m (some l) w = put at (at + 2 * m) (flat l) w
 unfoldable pub bentOr : List Vec2 → Option (List Vec2) → List Vec2
 bentOr pts none = pts
 bentOr pts (some l) = l
+
+-- The guide of n points for the piece of m points at `from`, walked from its point `start` on and bent out, where a way out serves. Wall distances are the first
+-- `cells` of the workspace.
+abbrev pub blendIn : Setup → List Float → List ℕ → List ℕ → ℕ → ℕ → ℕ → ℕ → ℕ → List Float → Option (List Vec2)
+blendIn s vs lens mp cells from m start n w = blendOf s (allowedAt s (within 0 cells w) vs lens) (freeAt s mp) (walkOf (pointsIn from m w) start n)
+
+-- the workspace with that guide, or the points that were walked, at `at`
+abbrev pub laidIn : Setup → List Float → List ℕ → List ℕ → ℕ → ℕ → ℕ → ℕ → ℕ → ℕ → List Float → List Float
+laidIn s vs lens mp cells from m start n at w =
+    put at (at + 2 * n) (flat (bentOr (walkOf (pointsIn from m w) start n) (blendIn s vs lens mp cells from m start n w))) w
 
 unfoldable pub isSome : {A : Type 0} → Option A → Bool
 isSome none = false

@@ -7,7 +7,7 @@ use lib.Dec.{ltb}
 use lib.Ieee.{Float, binary64, ofBits, toUnsigned, mul, div}
 use Rattle.geom.specs.declared.vec2.Vec2.{Vec2}
 use Rattle.events.specs.Read.{spotAt}
-use Rattle.passes.specs.Guide.{totalOf}
+use Rattle.passes.specs.Guide.{pathLength}
 
 -- 0.05
 abbrev pub c05 : Float
@@ -24,4 +24,4 @@ spotsFrom ts first (suc n) = spotsFrom ts first n ++ (spotAt ts (first + n) ∷ 
 
 -- not undone: removed < wanted || cut.len() < 2
 unfoldable pub worthOf : Float → List Vec2 → ℕ → Bool
-worthOf cell pts removed = not (ltb removed (wantedOf (totalOf pts) cell) || ltb (length pts) 2)
+worthOf cell pts removed = not (ltb removed (wantedOf (pathLength pts) cell) || ltb (length pts) 2)

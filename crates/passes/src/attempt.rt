@@ -1,21 +1,22 @@
 // A guide tried: its pass goes to the log and to the triples behind the kept ones, and the map is as before,
 // for the way to the pass is judged on it.
 ghost use mathlib.Core.Path.{_≡_};
-ghost use Prim.Native.Nat.{_+_, _*_, _/_};
+ghost use Prim.Native.Nat.{_/_, _≤_};
 ghost use lib.ListN.{length};
-ghost use Rattle.loops.specs.Regions.{within, put};
 ghost use Rattle.geom.specs.Points.{points};
-ghost use Rattle.raster.specs.Grid.{Over};
 ghost use Rattle.raster.specs.Log.{st, Ready};
 ghost use Rattle.raster.specs.Contact.{samplesOf, Rim};
-ghost use Rattle.setup.specs.Place.{Walls, allowedAt, freeAt};
+ghost use Rattle.setup.specs.Layout.{guideFrom, rimFrom};
+ghost use Rattle.setup.specs.Place.{Walls, allowedAt, cellsOf};
+ghost use Rattle.links.specs.Path.{wallIn, Fitted};
 ghost use Rattle.passes.specs.Simulate.{Usable};
-ghost use Rattle.passes.specs.Guide.{walkOf, pointsIn, flat, bentOr, blendOf};
-ghost use Rattle.passes.specs.Attempt.{ans, answered, outcomeOf, startBy, Spread};
+ghost use Rattle.passes.specs.Guide.{blendIn, laidIn, Ahead};
+ghost use Rattle.passes.specs.Attempt.{ans, answered, outcomeOf, startBy};
 use super::guide::lay_guide;
 use super::trial::simulate;
 use super::worth::worth;
 use setup::Setup;
+use setup::layout;
 
 // What became of a guide: the triples of its pass do not fit; a pass of so many points that is to be kept,
 // the cells that it removes and the work; or no such pass, and the work.
@@ -56,8 +57,8 @@ pub fn try_guide(
     Attempt::Nothing(t.work)
 }
 
-// A piece tried from its point `start` on: its guide of n points is laid at `at`, and tried where a way out
-// serves.
+// The piece of m points at `from` of the workspace, tried from its point `start` on: its guide of n points
+// is laid in the workspace, and tried where a way out serves.
 pub fn try_start(
     s: Setup,
     vs: &[f64],
@@ -67,23 +68,24 @@ pub fn try_start(
     w: &mut [f64],
     triples: &mut [f64],
     kept: usize,
-    cells: usize,
-    rim: usize,
     from: usize,
     m: usize,
     start: usize,
     n: usize,
-    at: usize,
 ) -> Attempt
-    requires { ⌜ Spread s (now vs) (now lens) (now w) cells rim from m start n at ⌝ }
-    requires { ⌜ Over (s .grid) (length (now map)) ⌝ }
+    requires { ⌜ Fitted s (now vs) (now lens) (now map) (now w) ⌝ }
     requires { ⌜ Ready (st (now map) (now log) 0) ⌝ }
+    requires { ⌜ Ahead from m start n (guideFrom (cellsOf s)) (rimFrom (cellsOf s)) ⌝ }
+    requires { ⌜ 1 ≤ n ⌝ }
     ensures { λ _. ⌜ now (map .exit) ≡ now (map .entry) ⌝ }
-    ensures { λ _. ⌜ now (w .exit) ≡ put at (at + 2 * n) (flat (bentOr (walkOf (pointsIn from m (now (w .entry))) start n) (blendOf s (allowedAt s (within 0 cells (now (w .entry))) (now (vs .entry)) (now (lens .entry))) (freeAt s (now (map .entry))) (walkOf (pointsIn from m (now (w .entry))) start n)))) (now (w .entry)) ⌝ }
-    ensures { λ r. ⌜ ans (now (log .exit)) (now (triples .exit)) r ≡ answered (startBy s (allowedAt s (within 0 cells (now (w .entry))) (now (vs .entry)) (now (lens .entry))) (blendOf s (allowedAt s (within 0 cells (now (w .entry))) (now (vs .entry)) (now (lens .entry))) (freeAt s (now (map .entry))) (walkOf (pointsIn from m (now (w .entry))) start n)) kept (now (map .entry)) (now (log .entry)) (now (triples .entry))) ⌝ }
+    ensures { λ _. ⌜ now (w .exit) ≡ laidIn s (now (vs .entry)) (now (lens .entry)) (now (map .entry)) (cellsOf s) from m start n (guideFrom (cellsOf s)) (now (w .entry)) ⌝ }
+    ensures { λ r. ⌜ ans (now (log .exit)) (now (triples .exit)) r ≡ answered (startBy s (allowedAt s (wallIn s (now (w .entry))) (now (vs .entry)) (now (lens .entry))) (blendIn s (now (vs .entry)) (now (lens .entry)) (now (map .entry)) (cellsOf s) from m start n (now (w .entry))) kept (now (map .entry)) (now (log .entry)) (now (triples .entry))) ⌝ }
 {
+    let cells = layout::cells(s.grid);
+    let at = layout::guide(cells);
     if lay_guide(s, vs, lens, map, w, cells, from, m, start, n, at) {
         let e = at + 2 * n;
+        let rim = layout::rim(cells);
         let end = rim + 4096;
         return try_guide(
             s,

@@ -9,8 +9,8 @@ ghost use Rattle.geom.specs.Points.{points};
 ghost use Rattle.raster.specs.Grid.{Over};
 ghost use Rattle.setup.specs.Place.{Walls, allowedAt, freeAt};
 ghost use Rattle.passes.specs.Simulate.{nowhere};
-ghost use Rattle.passes.specs.Guide.{totalOf, alongOf, bentAt, afterOf, bentOf, farOf, chooseOf, blendOf};
-ghost use Rattle.passes.specs.Guide.{roundTo, walkOf, flat, pointsIn, laid, bentOr, isSome, Ahead};
+ghost use Rattle.passes.specs.Guide.{pathLength, lengthSoFar, bentAt, afterOf, bentOf, farOf, chooseOf, blendOf};
+ghost use Rattle.passes.specs.Guide.{roundTo, walkOf, flat, pointsIn, laid, blendIn, laidIn, isSome, Ahead};
 use geom::region::vertex;
 use geom::vec2::Vec2;
 use setup::Setup;
@@ -26,7 +26,7 @@ pub enum Blend {
 
 // The guide's length.
 fn total(guide: &[f64]) -> f64
-    ensures { λ t. ⌜ t ≡ totalOf (points 0 (length (now (guide .entry)) / 2) (now (guide .entry))) ⌝ }
+    ensures { λ t. ⌜ t ≡ pathLength (points 0 (length (now (guide .entry)) / 2) (now (guide .entry))) ⌝ }
 {
     let n = guide.len() / 2;
     let mut t = 0.0;
@@ -39,7 +39,7 @@ fn total(guide: &[f64]) -> f64
 
 // The length up to p, the point k, where it is s up to the point b before it.
 fn along(k: usize, s: f64, b: Vec2, p: Vec2) -> f64
-    ensures { λ t. ⌜ t ≡ alongOf k s b p ⌝ }
+    ensures { λ t. ⌜ t ≡ lengthSoFar k s b p ⌝ }
 {
     if 0 < k {
         return s + b.distance(p);
@@ -225,8 +225,8 @@ pub fn lay_guide(
     requires { ⌜ Ahead from m start n at (length (now w)) ⌝ }
     requires { ⌜ cells ≤ at ⌝ }
     requires { ⌜ 1 ≤ n ⌝ }
-    ensures { λ r. ⌜ r ≡ isSome (blendOf s (allowedAt s (within 0 cells (now (w .entry))) (now (vs .entry)) (now (lens .entry))) (freeAt s (now (map .entry))) (walkOf (pointsIn from m (now (w .entry))) start n)) ⌝ }
-    ensures { λ _. ⌜ now (w .exit) ≡ put at (at + 2 * n) (flat (bentOr (walkOf (pointsIn from m (now (w .entry))) start n) (blendOf s (allowedAt s (within 0 cells (now (w .entry))) (now (vs .entry)) (now (lens .entry))) (freeAt s (now (map .entry))) (walkOf (pointsIn from m (now (w .entry))) start n)))) (now (w .entry)) ⌝ }
+    ensures { λ r. ⌜ r ≡ isSome (blendIn s (now (vs .entry)) (now (lens .entry)) (now (map .entry)) cells from m start n (now (w .entry))) ⌝ }
+    ensures { λ _. ⌜ now (w .exit) ≡ laidIn s (now (vs .entry)) (now (lens .entry)) (now (map .entry)) cells from m start n at (now (w .entry)) ⌝ }
 {
     walk(w, from, m, start, n, at);
     blend_in(s, vs, lens, map, w, cells, at, n)

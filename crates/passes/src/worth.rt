@@ -2,14 +2,14 @@
 ghost use mathlib.Core.Path.{_≡_};
 ghost use Prim.Native.Nat.{_+_, _*_, _≤_};
 ghost use lib.ListN.{length};
-ghost use Rattle.passes.specs.Guide.{totalOf};
+ghost use Rattle.passes.specs.Guide.{pathLength};
 ghost use Rattle.passes.specs.Worth.{wantedOf, spotsFrom, worthOf};
 use events::list::spot;
 
 // The length of a pass of n triples from number `first` on.
 fn cut_length(triples: &[f64], first: usize, n: usize) -> f64
     requires { ⌜ (first + n) * 3 ≤ length (now triples) ⌝ }
-    ensures { λ t. ⌜ t ≡ totalOf (spotsFrom (now (triples .entry)) first n) ⌝ }
+    ensures { λ t. ⌜ t ≡ pathLength (spotsFrom (now (triples .entry)) first n) ⌝ }
 {
     let mut t = 0.0;
     for k in 1..n {
