@@ -21,7 +21,7 @@ use Rattle.events.specs.Read.{spotAt, pointsFrom}
 use Rattle.events.proofs.LentLaws.{trial-withdrawn, triples-append}
 use Rattle.events.proofs.PassLaws.{points-long}
 use Rattle.passes.specs.Attempt.{Outcome}
-use Rattle.passes.specs.Tried.{Measured}
+use Rattle.setup.specs.Made.{Measured}
 use Rattle.cutting.specs.Tries.{Tries, triesOf}
 use Rattle.cutting.specs.Way.{routeOf, wayChunks}
 use Rattle.cutting.specs.Listing.{needs, refusalOf}

@@ -25,7 +25,8 @@ use Rattle.events.specs.Told.{howMany, eventsOf}
 use Rattle.events.proofs.GrowLaws.{steps-append, legal-append}
 use Rattle.events.proofs.CountLaws.{events-append}
 use Rattle.passes.specs.Attempt.{Outcome}
-use Rattle.passes.specs.Tried.{jobAt, Measured}
+use Rattle.setup.specs.Made.{Measured}
+use Rattle.passes.specs.Tried.{jobAt}
 use Rattle.cutting.specs.Tries.{Tries, triesOf}
 use Rattle.cutting.specs.Way.{routeOf, wayChunks}
 use Rattle.cutting.specs.Listing.{needs, refusalOf}

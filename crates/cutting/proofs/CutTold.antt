@@ -25,7 +25,8 @@ use Rattle.events.proofs.CountLaws.{events-append}
 use Rattle.events.proofs.Finish.{finished}
 use Rattle.events.proofs.FollowLaws.{followed-append, links-followed, plunge-followed}
 use Rattle.passes.specs.Attempt.{Outcome}
-use Rattle.passes.specs.Tried.{jobAt, Measured}
+use Rattle.setup.specs.Made.{Measured}
+use Rattle.passes.specs.Tried.{jobAt}
 use Rattle.cutting.specs.Tries.{triesOf}
 use Rattle.cutting.specs.Way.{routeOf, wayChunks}
 use Rattle.cutting.specs.Piece.{Left, WithEvents, cutPieceOf}

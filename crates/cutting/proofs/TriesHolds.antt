@@ -18,7 +18,7 @@ use Rattle.events.proofs.LentLaws.{trial-none, trial-withdrawn}
 use Rattle.passes.specs.Simulate.{Pass, simulateOf}
 use Rattle.passes.specs.Guide.{blendOf}
 use Rattle.passes.specs.Attempt.{Outcome, judgedBy, outcomeOf, startBy}
-use Rattle.passes.specs.Tried.{Measured}
+use Rattle.setup.specs.Made.{Measured}
 use Rattle.passes.specs.declared.start.Place.{Place}
 use Rattle.passes.proofs.KeepLaws.{simulate-ran, ran-kept}
 use Rattle.passes.proofs.PieceLaws.{blend-tried}

@@ -18,7 +18,8 @@ use Rattle.events.proofs.GrowLaws.{steps-append, legal-append}
 use Rattle.events.proofs.CountLaws.{events-append}
 use Rattle.passes.specs.Guide.{blendOf}
 use Rattle.passes.specs.Attempt.{Outcome, oc, startBy}
-use Rattle.passes.specs.Tried.{jobAt, Measured}
+use Rattle.setup.specs.Made.{Measured}
+use Rattle.passes.specs.Tried.{jobAt}
 use Rattle.passes.specs.declared.start.Place.{Place}
 use Rattle.cutting.specs.Tries.{startAt, guideOf, Tries, worked, tryEvents, guideAt, tryAt, triesOf}
 use Rattle.cutting.proofs.TriesKeep.{ready-same, keeps-tries}

@@ -23,7 +23,8 @@ use Rattle.passes.specs.Simulate.{Pass, simulateOf}
 use Rattle.passes.specs.Guide.{blendOf}
 use Rattle.passes.specs.Worth.{spotsFrom, worthOf}
 use Rattle.passes.specs.Attempt.{Outcome, judgedBy, outcomeOf, startBy}
-use Rattle.passes.specs.Tried.{jobAt, Measured}
+use Rattle.setup.specs.Made.{Measured}
+use Rattle.passes.specs.Tried.{jobAt}
 use Rattle.passes.proofs.KeepLaws.{simulate-ran, ran-kept}
 use Rattle.passes.proofs.WorthLaws.{worth-points}
 use Rattle.passes.proofs.TriedLaws.{Tried, tried-step}

@@ -26,7 +26,8 @@ use Rattle.passes.specs.Simulate.{Pass, simulateOf}
 use Rattle.passes.specs.Guide.{blendOf, walkOf, flat, pointsIn, bentOr, blendIn, laidIn, isSome, Ahead}
 use Rattle.passes.specs.declared.attempt.Attempt.the-variants.{Nothing}
 use Rattle.passes.specs.Attempt.{answerOf, Answered, ans, answered, outcomeOf, startBy}
-use Rattle.passes.specs.Tried.{jobAt, Measured}
+use Rattle.setup.specs.Made.{Measured}
+use Rattle.passes.specs.Tried.{jobAt}
 use Rattle.passes.proofs.LayLaws.{flat-length, points-flat, walk-length, part-half, part-some}
 use Rattle.passes.proofs.BlendLaws.{blend-begins, blend-length}
 use Rattle.passes.proofs.TriedLaws.{Tried, simulate-tried}

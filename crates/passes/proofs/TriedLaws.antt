@@ -34,7 +34,8 @@ use Rattle.events.proofs.PassLaws.{last-more, laterLogged, later-more, checked-
 use Rattle.passes.specs.declared.shifts.Shift.the-variants.{At}
 use Rattle.passes.specs.Shifts.{maxShift}
 use Rattle.passes.specs.Simulate.{nowhere, Pass, ps, tr, spent, filled, stepOf, advanceOf, legStep, ended, begun, simulateOf}
-use Rattle.passes.specs.Tried.{widened, jobAt, Measured}
+use Rattle.setup.specs.Made.{widened, Measured}
+use Rattle.passes.specs.Tried.{jobAt}
 use Rattle.passes.proofs.ServedLaws.{Served, search-served}
 use Rattle.passes.proofs.KeepLaws.{keeps-legs}
 
@@ -218,11 +219,6 @@ module _ (s : Setup) (wall vs : List Float) (lens start : List ℕ) (limit : Flo
         by-test (Tried jobHere kept m l o) (leb (length o / 3) kept) _ _
         (λ b. empty q)
         (λ b. whole q _ g (goes-legs s wall vs lens start limit entry M kept (st m l 0) o (pt q f0) pts (length pts) _ (begins q (leb-false (length o / 3) kept b))))
-
--- with the limits of an engagement that questions 2 and 12 accept, setup keeps what the theorem asks
-pub measured-of : (s : Setup) (deg : Float) → le f1 deg ≡ true → lt deg (ofBits binary64 0x4066_8000_0000_0000) ≡ true
-    → s .guard ≡ guardOf (radiansOf deg) (s .grid .cell) (s .r) → s .target ≡ targetOf (s .guard) → s .«r_guard» ≡ add binary64 (s .r) (mul binary64 quarter (s .grid .cell)) → Measured s
-measured-of s deg low high G T W = record { wide = W; below = rw (T, G) (target-at-most deg low high (s .grid .cell) (s .r)) }
 
 -- in a state whose map and log's slice it began with, the event is checked, and it leaves the map, the log and the count that the pass left
 pub tried-step : (j : Job) (kept : ℕ) (m l : List ℕ) (o : List Float) (u : Pass) (t : Tried j kept m l o u) (e : State) → e .stock .cells ≡ m → e .stock .log ≡ l → e .trial ≡ none

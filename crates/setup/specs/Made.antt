@@ -10,6 +10,13 @@ use Rattle.raster.specs.declared.grid.Grid.{Grid}
 use Rattle.setup.specs.Limits.{guardOf, targetOf, samplesOf}
 use Rattle.setup.specs.declared.Setup.{Setup}
 
+-- the radius that contact is sampled at: r + 0.25 * cell
+abbrev pub widenedBy : Float → Float → Float
+widenedBy r cell = add binary64 r (mul binary64 quarter cell)
+
+abbrev pub widened : Setup → Float
+widened s = widenedBy (s .r) (s .grid .cell)
+
 -- the radius is half the diameter; walls are kept at the radius and the stock to leave; the limit is the engagement in radians
 unfoldable pub setupOf : Grid → Region → Float → Float → Float → Bool → Setup
 setupOf g region diameter leave degrees down =
@@ -20,7 +27,7 @@ setupOf g region diameter leave degrees down =
       grid = g;
       region = region;
       r = r;
-      «r_guard» = add binary64 r (mul binary64 quarter (g .cell));
+      «r_guard» = widenedBy r (g .cell);
       keep = keep;
       bound = boundOf keep;
       target = targetOf guard;
@@ -29,7 +36,7 @@ setupOf g region diameter leave degrees down =
       «keep_down» = down;
     }
 
--- contact is measured at r + 0.25 * cell, and the target is at most the guard
+-- contact is measured at the widened radius, and the target is at most the guard
 pub record Measured (s : Setup) : Type 0 where
-  pub wide : s .«r_guard» ≡ add binary64 (s .r) (mul binary64 quarter (s .grid .cell))
+  pub wide : s .«r_guard» ≡ widened s
   pub below : le (s .target) (s .guard) ≡ true
