@@ -64,7 +64,7 @@ pub extern "C" fn distance_within(
         x,
     };
     let l = distance::limits::limit_of(b);
-    distance::limits::within(b, l, square)
+    distance::limits::is_within(b, l, square)
 }
 
 #[no_mangle]

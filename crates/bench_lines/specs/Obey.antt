@@ -4,9 +4,10 @@ use mathlib.Core.Bool.{Bool, true, false, cond}
 use mathlib.Core.List.{List}
 use lib.ListN.{length, set}
 use lib.Dec.{ltb}
-use lib.Ieee.{Float, binary64, ofBits, mul}
+use lib.Ieee.{Float, binary64, mul}
 use Rattle.loops.specs.Loop.{loop}
 use Rattle.loops.specs.Cells.{ones}
+use Rattle.numbers.specs.Small.{f1, quarter}
 use Rattle.geom.specs.Vec.{v2, f0}
 use Rattle.geom.specs.declared.vec2.Vec2.{Vec2}
 use Rattle.raster.specs.Grid.{float}
@@ -49,11 +50,11 @@ noMap = bench 1 1 0 false false
 
 -- cell 1, origin 0
 abbrev pub gridFor : ℕ → ℕ → Grid
-gridFor nx ny = record { origin = v2 f0 f0; cell = ofBits binary64 0x3ff0_0000_0000_0000; nx = nx; ny = ny }
+gridFor nx ny = record { origin = v2 f0 f0; cell = f1; nx = nx; ny = ny }
 
 -- quarter cells
 abbrev pub quarterOf : ℕ → Float
-quarterOf n = mul binary64 (float n) (ofBits binary64 0x3fd0_0000_0000_0000)
+quarterOf n = mul binary64 (float n) quarter
 
 -- the first n cells are stock and no others
 abbrev pub fillCell : ℕ → ℕ → List ℕ → List ℕ

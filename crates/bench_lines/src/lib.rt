@@ -1,5 +1,5 @@
 // The bench's lines without its input and output: what a line says, and what it does to the map.
-pub mod line;
+mod line;
 pub mod obey;
 pub mod reader;
 pub mod words;

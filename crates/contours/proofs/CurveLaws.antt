@@ -1,6 +1,6 @@
 -- What is said of curves: the last insert wins, and every piece has two points or more. Assumes nothing.
 use mathlib.Core.Path.{_≡_, refl, sym, ap, _∙_}
-use mathlib.Core.Bool.{Bool, false}
+use mathlib.Core.Bool.{Bool, false, not, _||_}
 use mathlib.Core.List.{List, [], _∷_, _++_, map}
 use mathlib.Core.Option.{some}
 use Prim.Native.Nat.{ℕ, _*_, _<_}
@@ -74,8 +74,7 @@ module _ (at : EdgeNo → Vec2) (next : EdgeMap) (e : ℕ) where
   unfolding startFrom curved
   start-two s c h =
       let k = curveFrom next e (c .used) s in
-      by-test (λ (d : Curves). Each TwoPoints (d .pieces)) (c .used s) _ _ (λ t. h)
-      (λ t. by-test (λ (d : Curves). Each TwoPoints (d .pieces)) (isSome (next s)) _ _ (λ u. added-two (deduped (map at (k .ids))) (k .closed) (c .pieces) h) (λ u. h))
+      by-test (λ (d : Curves). Each TwoPoints (d .pieces)) (c .used s || not (isSome (next s))) _ _ (λ t. h) (λ t. added-two (deduped (map at (k .ids))) (k .closed) (c .pieces) h)
 
   starts-two : (l : List EdgeNo) (c : Curves) → Each TwoPoints (c .pieces) → Each TwoPoints (over (startFrom at next e) l c .pieces)
   unfolding over

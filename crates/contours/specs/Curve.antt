@@ -1,6 +1,6 @@
 -- Segments joined end to end into pieces: the second half of `contours` of adaptive.rs, with its map `next` and its sets `has_prev` and `used`. Definitions only.
 use Prim.Native.Nat.{ℕ, _*_}
-use mathlib.Core.Bool.{Bool, true, false, cond, _||_}
+use mathlib.Core.Bool.{Bool, true, false, cond, not, _||_}
 use mathlib.Core.List.{List, [], _∷_, _++_, map}
 use mathlib.Core.Option.{Option, none, some}
 use lib.ListN.{length}
@@ -53,11 +53,13 @@ jointed s t = record { next = keyed (s .from) (s .to) (t .next); hasPrev = with 
 abbrev pub unjointed : Joints
 unjointed = record { next = λ e. none; hasPrev = λ e. false }
 
+-- for &(a, b) in &segs
 unfoldable pub jointsOf : List Segment → Joints
 jointsOf segs = over jointed segs unjointed
 
 -- ---- a curve: the edges from a first one on
 
+-- so far: the edges used by any curve, this one's, and the last of them
 pub record Strand : Type 0 where
   pub used : EdgeSet
   pub ids : List EdgeNo
@@ -119,6 +121,7 @@ deduped (p ∷ ps) = p ∷ thinned p ps
 
 -- ---- all curves
 
+-- the edges they used, and their pieces
 pub record Curves : Type 0 where
   pub used : EdgeSet
   pub pieces : List Piece
@@ -135,6 +138,7 @@ unfoldable pub openStarts : EdgeSet → List Segment → List EdgeNo
 openStarts hasPrev [] = []
 openStarts hasPrev (s ∷ segs) = cond (hasPrev (s .from)) (openStarts hasPrev segs) (s .from ∷ openStarts hasPrev segs)
 
+-- segs.iter().map(|s| s.0)
 abbrev pub firsts : List Segment → List EdgeNo
 firsts segs = map (λ (s : Segment). s .from) segs
 
@@ -147,7 +151,7 @@ module _ (at : EdgeNo → Vec2) (next : EdgeMap) (e : ℕ) where
 
   -- if used.contains(&s) || !next.contains_key(&s) { continue }
   unfoldable pub startFrom : EdgeNo → Curves → Curves
-  startFrom s c = cond (c .used s) c (cond (isSome (next s)) (curved s c) c)
+  startFrom s c = cond (c .used s || not (isSome (next s))) c (curved s c)
 
 -- open curves first, where nothing leads in, then loops
 unfoldable pub piecesOf : (EdgeNo → Vec2) → ℕ → List Segment → List Piece
@@ -155,5 +159,6 @@ piecesOf at e segs =
     let t = jointsOf segs in
     over (startFrom at (t .next) e) (openStarts (t .hasPrev) segs ++ firsts segs) (curves (λ k. false) []) .pieces
 
+-- where the field f crosses the level
 unfoldable pub contoursOf : Grid → List Float → Float → List Piece
 contoursOf g f level = piecesOf (crossingAt g f level) (2 * (g .ny * g .nx)) (march g f level)

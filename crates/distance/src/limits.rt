@@ -94,7 +94,7 @@ pub fn limit_of(b: Bound) -> Limit
     }
 }
 
-pub fn within(b: Bound, l: Limit, square: u32) -> bool
+pub fn is_within(b: Bound, l: Limit, square: u32) -> bool
     requires { ⌜ LimitOf (b .scaled) (b .scale) (b .strict) (b .x) (l .told) (l .below) ⌝ }
     ensures { λ r. ⌜ r ≡ passesOf (b .scaled) (b .scale) (b .strict) (b .x) square ⌝ }
 {

@@ -10,8 +10,8 @@ ghost use Rattle.field.specs.Gauge.{TestOf, Gauged};
 use distance::limits::Bound;
 use distance::limits::Limit;
 use distance::limits::beyond;
+use distance::limits::is_within;
 use distance::limits::limit_of;
-use distance::limits::within;
 use setup::Setup;
 
 const TAU: f64 = 6.28318530717958647692528676655900577;
@@ -97,7 +97,7 @@ pub fn wanted(g: Gauge, allowed: &[u8], near: &[u32], k: usize) -> bool
             return true;
         }
         let t = g.near;
-        return within(t.bound, t.limit, near[k]);
+        return is_within(t.bound, t.limit, near[k]);
     }
     false
 }
@@ -122,7 +122,7 @@ pub fn value_at(g: Gauge, map: &[u8], stock: &[u32], rim: &[f64], i: usize, j: u
         };
     }
     let deep = g.deep;
-    if within(deep.bound, deep.limit, square) {
+    if is_within(deep.bound, deep.limit, square) {
         return Value {
             v: g.full,
             sampled: false,

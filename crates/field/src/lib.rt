@@ -1,5 +1,5 @@
 // The engagement field (`field` of the Rust): at each cell where the tool may go, the angle of its whole rim
 // over stock.
-pub mod gauge;
+mod gauge;
 pub mod round;
-pub mod rows;
+mod rows;

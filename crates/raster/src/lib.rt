@@ -5,5 +5,5 @@ pub mod disk;
 pub mod fill;
 pub mod grid;
 pub mod log;
-pub mod sort;
+mod sort;
 pub mod stock;

@@ -1,4 +1,4 @@
-//! The functions of the layer `contours`, with what they require as assertions.
+//! The functions of the layers `contours` and `smoothing`, with what they require as assertions.
 use crate::planners::sided;
 use oracle::planner::{Piece, Planner};
 use oracle::vec2::{Vec2, v2};

@@ -26,11 +26,11 @@ beyond-requires c κs = let t = c .before .before .before .before .before .befor
 returns : tie.Need-returns
 returns c = value-far _ (c .before .before .before .before .before .before .before .before .before .pre .0) _ _ _ _ _ (c .before .beyond .ensures) (c .if1 .taken)
 
-within-requires : tie.Need-within-requires
-within-requires c κs = search needs
+is-within-requires : tie.Need-is-within-requires
+is-within-requires c κs = search needs
 
 returns-2 : tie.Need-returns-2
-returns-2 c = value-deep _ (c .before .before .before .before .before .before .before .before .before .before .before .before .pre .0) _ _ _ _ _ (c .before .before .before .before .beyond .ensures) (c .before .before .before .if1 .left) _ (c .before .within .ensures) (c .if2 .taken)
+returns-2 c = value-deep _ (c .before .before .before .before .before .before .before .before .before .before .before .before .pre .0) _ _ _ _ _ (c .before .before .before .before .beyond .ensures) (c .before .before .before .if1 .left) _ (c .before .is-within .ensures) (c .if2 .taken)
 
 center-requires : tie.Need-center-requires
 center-requires c κs = search needs
@@ -42,7 +42,7 @@ narrow-requires : tie.Need-narrow-requires
 narrow-requires c κs = search needs
 
 returns-3 : tie.Need-returns-3
-returns-3 c = value-sampled _ (c .before .before .before .before .before .before .before .before .before .before .before .before .before .before .before .pre .0) _ _ _ _ _ (c .before .before .before .before .before .before .before .beyond .ensures) (c .before .before .before .before .before .before .if1 .left) _ (c .before .before .before .before .within .ensures) (c .before .before .before .if2 .left) _ _ _ (c .before .before .center .ensures) (c .before .contact .ensures) (c .narrow .ensures)
+returns-3 c = value-sampled _ (c .before .before .before .before .before .before .before .before .before .before .before .before .before .before .before .pre .0) _ _ _ _ _ (c .before .before .before .before .before .before .before .beyond .ensures) (c .before .before .before .before .before .before .if1 .left) _ (c .before .before .before .before .is-within .ensures) (c .before .before .before .if2 .left) _ _ _ (c .before .before .center .ensures) (c .before .contact .ensures) (c .narrow .ensures)
 
 pub value-at-spec : {M : Type 1} → statement M
 value-at-spec =
@@ -54,7 +54,7 @@ value-at-spec =
     shared-slice-read-square
     beyond-requires
     returns
-    within-requires
+    is-within-requires
     returns-2
     center-requires
     contact-requires

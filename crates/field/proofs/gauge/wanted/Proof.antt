@@ -17,11 +17,11 @@ mul-within c = search needs
 shared-slice-read-within : tie.Need-shared-slice-read-within
 shared-slice-read-within c = search needs
 
-within-requires : tie.Need-within-requires
-within-requires c κs = search needs
+is-within-requires : tie.Need-is-within-requires
+is-within-requires c κs = search needs
 
 returns-2 : tie.Need-returns-2
-returns-2 c = wanted-near _ (c .before .before .before .before .before .before .before .before .pre .0) _ _ _ (eq-eqb _ _ (c .before .before .before .before .if1 .taken)) (c .before .before .before .if2 .left) _ (c .within .ensures)
+returns-2 c = wanted-near _ (c .before .before .before .before .before .before .before .before .pre .0) _ _ _ (eq-eqb _ _ (c .before .before .before .before .if1 .taken)) (c .before .before .before .if2 .left) _ (c .is-within .ensures)
 
 returns-3 : tie.Need-returns-3
 returns-3 c = wanted-not _ (c .before .before .before .before .pre .0) _ _ _ (ne-eqb _ _ (c .if1 .left))
@@ -34,6 +34,6 @@ wanted-spec =
     returns
     mul-within
     shared-slice-read-within
-    within-requires
+    is-within-requires
     returns-2
     returns-3)

@@ -1,9 +1,9 @@
--- `distance::limits::within` meets its contract. Assumes nothing.
+-- `distance::limits::is_within` meets its contract. Assumes nothing.
 use mathlib.Core.Path.{sym}
 use native.Mathlib.Omega.{arith}
 use borrow.Author.Needs.{needs}
-use Rattle.distance.proofs.limits.within.Statement.{statement}
-use Rattle.distance.proofs.limits.within.Tie as tie
+use Rattle.distance.proofs.limits.is_within.Statement.{statement}
+use Rattle.distance.proofs.limits.is_within.Tie as tie
 
 returns : tie.Need-returns
 returns c = sym (c .before .before .pre .squares (c .before .if1 .taken) (c .before .before .args .square) (omega arith))
@@ -14,5 +14,5 @@ passes-requires c κs = search needs
 returns-2 : tie.Need-returns-2
 returns-2 c = search needs
 
-pub within-spec : {M : Type 1} → statement M
-within-spec = tie.close (tie.spec returns passes-requires returns-2)
+pub is-within-spec : {M : Type 1} → statement M
+is-within-spec = tie.close (tie.spec returns passes-requires returns-2)
