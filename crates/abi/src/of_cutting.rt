@@ -4,7 +4,7 @@ ghost use mathlib.Core.Path.{_≡_};
 ghost use Prim.Native.Nat.{_*_, _≤_};
 ghost use lib.ListN.{length};
 ghost use Rattle.numbers.specs.declared.bound.Bound.the-variants.{Untold};
-ghost use Rattle.setup.specs.Layout.{run, mapIn};
+ghost use Rattle.setup.specs.Layout.{mapIn};
 ghost use Rattle.links.specs.Path.{Fitted};
 ghost use Rattle.cutting.specs.Tries.{Among};
 ghost use Rattle.cutting.specs.Piece.{sta, Lends, Listed};

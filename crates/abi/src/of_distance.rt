@@ -4,15 +4,15 @@ ghost use Prim.Native.Nat.{ℕ, _+_, _*_, _≤_, _<_};
 ghost use lib.ListN.{length};
 ghost use lib.Dec.{ltb};
 ghost use lib.Ieee as Ieee;
-ghost use Rattle.distance.specs.Least.{Sides, far};
+ghost use Rattle.distance.specs.Least.{MapSides, far};
 ghost use Rattle.distance.specs.Nearest.{transformOf};
 ghost use Rattle.distance.specs.Rooted.{distancesOf};
-ghost use Rattle.distance.specs.Limits.{lengthOf, passesOf};
-use distance::limits::Bound;
+ghost use Rattle.distance.specs.Limits.{scaledOf, passesOf};
+use distance::limits::Threshold;
 
 #[no_mangle]
 pub extern "C" fn distance_transform(marks: &[u8], mark: u8, nx: usize, ny: usize, work: &mut [u32])
-    requires { ⌜ Sides nx ny ⌝ }
+    requires { ⌜ MapSides nx ny ⌝ }
     requires { ⌜ ny * nx ≤ length (now marks) ⌝ }
     requires { ⌜ ny * nx + 3 * nx ≤ length (now work) ⌝ }
     ensures { λ _. ⌜ now (work .exit) ≡ transformOf mark (now (marks .entry)) nx ny (now (work .entry)) ⌝ }
@@ -34,7 +34,7 @@ pub extern "C" fn distance_distances(squares: &[u32], n: usize, out: &mut [f64])
 pub extern "C" fn distance_limit(scaled: bool, scale: f64, strict: bool, x: f64) -> u32
     ensures { λ r. ⌜ (r < far → (d : ℕ) → d ≤ far → passesOf scaled scale strict x d ≡ ltb d r) ⌝ }
 {
-    let b = Bound {
+    let b = Threshold {
         scaled,
         scale,
         strict,
@@ -57,7 +57,7 @@ pub extern "C" fn distance_within(
 ) -> bool
     ensures { λ r. ⌜ r ≡ passesOf scaled scale strict x square ⌝ }
 {
-    let b = Bound {
+    let b = Threshold {
         scaled,
         scale,
         strict,
@@ -69,9 +69,9 @@ pub extern "C" fn distance_within(
 
 #[no_mangle]
 pub extern "C" fn distance_beyond(scaled: bool, scale: f64, x: f64, square: u32) -> bool
-    ensures { λ r. ⌜ r ≡ Ieee.lt x (lengthOf scaled scale square) ⌝ }
+    ensures { λ r. ⌜ r ≡ Ieee.lt x (scaledOf scaled scale square) ⌝ }
 {
-    let b = Bound {
+    let b = Threshold {
         scaled,
         scale,
         strict: false,

@@ -1,14 +1,14 @@
 -- A field of a number, read byte by byte: the decimal that it is, or a line that cannot end well. Assumes nothing.
 use mathlib.Core.Path.{_≡_, refl, sym, ap, _∙_, subst}
-use mathlib.Core.Bool.{Bool, true, false, cond, not, _&&_}
+use mathlib.Core.Bool.{Bool, true, false, not, _&&_}
 use mathlib.Core.List.{List, [], _∷_}
 use Prim.Native.Nat.{ℕ, _+_, _*_, _-_, _%_, _≤_, _<_}
 use native.Mathlib.Omega.{arith}
 use lib.Dec.{eqb, ltb, leb}
-use borrow.Author.Tests.{leb-true, leb-false, eqb-true, eqb-false, not-true, lt-ltb, le-ltb, lt-leb, ne-eqb}
+use borrow.Author.Tests.{leb-true, leb-false, eqb-true, eqb-false, not-true, lt-ltb, le-ltb, ne-eqb}
 use Rattle.loops.specs.Each.{over, Each}
 use Rattle.loops.proofs.Cases.{by-cases, both, never}
-use Rattle.bench_lines.specs.Words.{stepOf, spoilt, numbered, firstDigit, laterDigit, digitOf}
+use Rattle.bench_lines.specs.Words.{stepOf, numbered, laterDigit, digitOf}
 use Rattle.bench_lines.specs.Meaning.{isDigit, allDigits, isDecimal, valueFrom, valueOf, isQuarters}
 use Rattle.bench_lines.specs.declared.words.Words.{Words}
 use Rattle.bench_lines.proofs.FieldLaws.{Plain, Failing, bad-stays}

@@ -1,13 +1,13 @@
 -- A line read byte by byte is its fields read one after the other. Assumes nothing.
-use mathlib.Core.Path.{_≡_, refl, sym, ap, _∙_, subst}
-use mathlib.Core.Bool.{Bool, true, false, cond, not}
+use mathlib.Core.Path.{_≡_, refl, sym, ap, _∙_}
+use mathlib.Core.Bool.{Bool, true, false, cond}
 use mathlib.Core.List.{List, [], _∷_}
 use Prim.Native.Nat.{ℕ}
-use lib.Dec.{eqb, ltb}
+use lib.Dec.{eqb}
 use borrow.Author.Tests.{eqb-true}
 use Rattle.loops.specs.Each.{over, Each}
 use Rattle.loops.proofs.Cases.{by-cases}
-use Rattle.bench_lines.specs.Words.{stepOf, spoilt, nextField}
+use Rattle.bench_lines.specs.Words.{stepOf, nextField}
 use Rattle.bench_lines.specs.Line.{lineOf}
 use Rattle.bench_lines.specs.Meaning.{onFirst, fieldsOf}
 use Rattle.bench_lines.specs.declared.words.Words.{Words}

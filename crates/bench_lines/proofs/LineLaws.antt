@@ -1,10 +1,10 @@
 -- The sides that a line names are 1 to 64. Assumes nothing.
 use mathlib.Core.Path.{_≡_, sym, subst}
-use mathlib.Core.Bool.{Bool, true, false, cond}
+use mathlib.Core.Bool.{Bool, true, false}
 use Prim.Native.Nat.{ℕ}
 use lib.Dec.{eqb, ltb, leb}
 use borrow.Author.Tests.{ltb-true, leb-true}
-use Rattle.loops.proofs.Cases.{by-cases, by-test, never}
+use Rattle.loops.proofs.Cases.{by-test, never}
 use Rattle.bench_lines.specs.Line.{Side, Sound, sideOf, mapOf, passOf, undoOf, wordOf, lineOf}
 use Rattle.bench_lines.specs.declared.words.Words.{Words}
 use Rattle.bench_lines.specs.declared.line.Line.{Line}

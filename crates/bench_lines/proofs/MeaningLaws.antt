@@ -6,18 +6,18 @@ use mathlib.Core.Logic.{⊎-elim}
 use Prim.Native.Nat.{ℕ, _+_, _≤_, _<_}
 use native.Mathlib.Omega.{arith}
 use lib.Dec.{eqb, ltb, leb}
-use borrow.Author.Tests.{leb-true, leb-false, ltb-true, ltb-false, le-leb, lt-leb, lt-ltb, le-ltb, ne-eqb}
+use borrow.Author.Tests.{leb-true, leb-false, le-leb, lt-ltb, le-ltb, ne-eqb}
 use Rattle.loops.specs.Each.{over, Each}
 use Rattle.loops.proofs.Cases.{by-cases, never}
-use Rattle.bench_lines.specs.Words.{noWords, stepOf, spoilt, shifted, nextField, letterOf, numbered}
+use Rattle.bench_lines.specs.Words.{noWords, stepOf, shifted, nextField, letterOf, numbered}
 use Rattle.bench_lines.specs.Line.{sideOf, mapOf, passOf, undoOf, wordOf, lineOf, wordsOf}
-use Rattle.bench_lines.specs.Meaning.{fieldsOf, isDecimal, valueOf, isSide, isQuarters, same, mapWord, passWord, undoWord, mapBy, passBy, undoBy, meantBy, meaningOf}
+use Rattle.bench_lines.specs.Meaning.{isDecimal, valueOf, isSide, isQuarters, same, mapWord, passWord, undoWord, mapBy, passBy, undoBy, meantBy, meaningOf}
 use Rattle.bench_lines.specs.declared.words.Words.{Words}
 use Rattle.bench_lines.specs.declared.line.Line.{Line}
-use Rattle.bench_lines.specs.declared.line.Line.the-variants.{Map, Pass, Bad}
-use Rattle.bench_lines.proofs.FieldLaws.{Plain, Parted, parted, laterRead, allRead, read-fields, bad-later, bad-stays, bad-line, failing-line, Failing}
+use Rattle.bench_lines.specs.declared.line.Line.the-variants.{Map, Bad}
+use Rattle.bench_lines.proofs.FieldLaws.{Plain, parted, laterRead, allRead, read-fields, bad-later, bad-stays, bad-line, failing-line, Failing}
 use Rattle.bench_lines.proofs.DecimalLaws.{Numbers, field-so, field-not}
-use Rattle.bench_lines.proofs.SpellLaws.{spelled, codeFrom, Spelt, spell, same-is, is-map, is-pass, is-undo}
+use Rattle.bench_lines.proofs.SpellLaws.{spelled, codeFrom, spell, same-is, is-map, is-pass, is-undo}
 
 -- ---- a field more
 

@@ -10,7 +10,7 @@ use Rattle.loops.specs.Cells.{ones}
 use Rattle.numbers.specs.Small.{f1, quarter}
 use Rattle.geom.specs.Vec.{v2, f0}
 use Rattle.geom.specs.declared.vec2.Vec2.{Vec2}
-use Rattle.raster.specs.Grid.{float}
+use Rattle.numbers.specs.Cast.{float}
 use Rattle.raster.specs.Log.{Stock, st, Logged, clearAfter, undone}
 use Rattle.raster.specs.declared.grid.Grid.{Grid}
 use Rattle.bench_lines.specs.Line.{Side}

@@ -1,7 +1,5 @@
 // What a line does to the map and the log, and what the bench answers.
 ghost use mathlib.Core.Path.{_≡_};
-ghost use Prim.Native.Nat.{_≤_};
-ghost use lib.ListN.{length};
 ghost use Rattle.geom.specs.Vec.{v2};
 ghost use Rattle.bench_lines.specs.Line.{Sound};
 ghost use Rattle.bench_lines.specs.Obey.{noMap, gridFor, quarterOf, filled, out, Fit, refused, mapped, cut, restored, obeyed};
@@ -59,7 +57,7 @@ fn grid_of(nx: usize, ny: usize) -> Grid
 fn quarter(n: usize) -> f64
     ensures { λ r. ⌜ r ≡ quarterOf n ⌝ }
 {
-    raster::grid::float_of(n) * 0.25
+    numbers::cast::float_of(n) * 0.25
 }
 
 fn point(x: usize, y: usize) -> Vec2

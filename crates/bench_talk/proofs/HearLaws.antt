@@ -1,6 +1,6 @@
 -- What a talk has heard, byte by byte and line by line. Assumes nothing.
 use mathlib.Core.Path.{_≡_, refl, sym, ap, _∙_, subst}
-use mathlib.Core.Bool.{Bool, true, false, cond}
+use mathlib.Core.Bool.{Bool, true, false}
 use mathlib.Core.List.{List, [], _∷_, _++_}
 use Prim.Native.Nat.{ℕ, _+_, _%_, _^_}
 use lib.Dec.{eqb}
@@ -11,11 +11,10 @@ use Rattle.bench_lines.specs.Words.{noWords, stepOf}
 use Rattle.bench_lines.specs.Line.{lineOf, wordsOf}
 use Rattle.bench_lines.specs.Meaning.{meaningOf}
 use Rattle.bench_lines.specs.Obey.{Out, out, noMap, obeyed}
-use Rattle.bench_lines.specs.Reader.{Heard, heard, silent, isWrong, lineHeard, byteHeard, begunOf, endHeard}
+use Rattle.bench_lines.specs.Reader.{Heard, silent, isWrong, lineHeard, byteHeard, begunOf, endHeard}
 use Rattle.bench_lines.specs.declared.words.Words.{Words}
 use Rattle.bench_lines.specs.declared.obey.Bench.{Bench}
 use Rattle.bench_lines.specs.declared.obey.Done.{Done}
-use Rattle.bench_lines.specs.declared.line.Line.{Line}
 use Rattle.bench_lines.proofs.CondLaws.{if-so, if-not}
 use Rattle.bench_lines.proofs.MeaningLaws.{meaning-is}
 use Rattle.bench_talk.specs.Hears.{Hears}

@@ -1,9 +1,9 @@
 -- Rows and triples put one after another: the links of a way or a plunge, and the pass behind them. Assumes nothing.
 use mathlib.Core.Path.{_≡_, refl, sym, ap, _∙_, subst}
 use mathlib.Core.List.{List, [], _∷_, _++_, map}
-use Prim.Native.Nat.{ℕ, zero, suc, _+_, _*_, _≤_, _<_}
+use Prim.Native.Nat.{ℕ, suc, _+_, _*_, _≤_, _<_}
 use native.Mathlib.Omega.{arith}
-use lib.ListN.{length, length-append, length-map}
+use lib.ListN.{length, length-map}
 use lib.Ieee.{Float}
 use Rattle.loops.proofs.EachLaws.{map-more}
 use Rattle.geom.specs.Vec.{f0}
@@ -17,7 +17,7 @@ use Rattle.links.specs.declared.link.Route.{Route}
 use Rattle.links.specs.declared.link.Route.the-variants.{Along, Lost}
 use Rattle.events.specs.Chunk.{Point, Chunk, plunge, link, cut}
 use Rattle.events.specs.Lent.{Row, Triple, tripleAt, pointTriple, rowAt, rowsFrom, allTriples, setRow, setTriple, gapTriples, shiftUp, putFrom, putAll, putRows}
-use Rattle.events.specs.Read.{pointsFrom, pointAt}
+use Rattle.events.specs.Read.{pointsFrom}
 use Rattle.events.proofs.LentLaws.{triples-more, rows-more, length-rows}
 use Rattle.events.proofs.PassLaws.{points-long}
 use Rattle.events.proofs.ShiftLaws.{set3-long, gap-is}

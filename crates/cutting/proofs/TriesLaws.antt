@@ -1,7 +1,7 @@
 -- What the proofs of `tries` cite, over plain values. Assumes nothing.
 use mathlib.Core.Path.{_≡_, refl, sym, ap, _∙_, subst}
 use mathlib.Core.Bool.{Bool, true, false, cond, _||_}
-use mathlib.Core.List.{List, [], _++_}
+use mathlib.Core.List.{List, []}
 use Prim.Native.Nat.{ℕ, _+_, _-_, _*_, _/_, _%_, _≤_, _<_}
 use native.Mathlib.Omega.{arith}
 use native.Mathlib.Nat.{mul-pos, mod-eq-of-lt}
@@ -25,7 +25,7 @@ use Rattle.links.proofs.LinkLaws.{wall-kept, fitted-kept}
 use Rattle.passes.specs.Shifts.{satAdd}
 use Rattle.passes.specs.Guide.{walkOf, blendOf, flat, pointsIn, bentOr, blendIn, laidIn, Ahead}
 use Rattle.passes.specs.Start.{nearOf, startOf}
-use Rattle.passes.specs.Attempt.{Attempted, att, Outcome, oc, answerOf, Answered, ans, answered, startBy}
+use Rattle.passes.specs.Attempt.{att, Outcome, oc, answerOf, Answered, ans, answered, startBy}
 use Rattle.passes.specs.declared.attempt.Attempt.{Attempt}
 use Rattle.passes.specs.declared.attempt.Attempt.the-variants.{Full, Worth, Nothing}
 use Rattle.passes.specs.declared.start.Place.{Place}

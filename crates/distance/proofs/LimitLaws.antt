@@ -18,17 +18,17 @@ use Rattle.numbers.proofs.WholeLaws.{nought}
 use Rattle.numbers.proofs.NarrowLaws.{pos-of}
 use Rattle.numbers.proofs.RootMono.{rootAt, root-defined, root-whole-mono, whole-above}
 use Rattle.distance.specs.Least.{far}
-use Rattle.distance.specs.Rooted.{distanceOf}
-use Rattle.distance.specs.Limits.{lengthOf, passesOf, Splits, LimitOf, Ordered}
+use Rattle.distance.specs.Rooted.{rootedOf}
+use Rattle.distance.specs.Limits.{scaledOf, passesOf, Splits, LimitOf, Ordered}
 
-distance-number : (d : ℕ) → isNan (distanceOf d) ≡ false
-unfolding distanceOf isNan
+distance-number : (d : ℕ) → isNan (rootedOf d) ≡ false
+unfolding rootedOf isNan
 distance-number d = by-test (λ (v : Float). isNan v ≡ false) (eqb d far) (inf false) (rootAt d) (λ _. refl) (λ _. root-defined (ofInt binary64 (pos d)) (whole-above d))
 
-distance-mono : (i j : ℕ) → i ≤ j → j ≤ far → le (distanceOf i) (distanceOf j) ≡ true
-unfolding distanceOf
-distance-mono i j a b = by-test (λ (v : Float). le (distanceOf i) v ≡ true) (eqb j far) (inf false) (rootAt j)
-    (λ _. under-top (distanceOf i) (distance-number i))
+distance-mono : (i j : ℕ) → i ≤ j → j ≤ far → le (rootedOf i) (rootedOf j) ≡ true
+unfolding rootedOf
+distance-mono i j a b = by-test (λ (v : Float). le (rootedOf i) v ≡ true) (eqb j far) (inf false) (rootAt j)
+    (λ _. under-top (rootedOf i) (distance-number i))
     (λ e. rw (ne-eqb i far (λ z. eqb-false j far e (omega arith))) (root-whole-mono i j a))
 
 positive-finite : (x : Float) → T (positive x) → T (finite x)
@@ -43,19 +43,19 @@ ordered-of scaled scale x e =
     record { scale-up = λ _. pos-of scale (q .0) (q .1); number = lt-numbers x (inf false) (p .1) .0 }
 
 module _ (scaled : Bool) (scale x : Float) (o : Ordered scaled scale x) where
-  length-number : (d : ℕ) → isNan (lengthOf scaled scale d) ≡ false
-  unfolding lengthOf
-  length-number d = by-test (λ (v : Float). isNan v ≡ false) scaled (mul binary64 (distanceOf d) scale) (distanceOf d)
-      (λ e. let p = o .scale-up e in scale-number binary64 (distanceOf d) scale (distance-number d) (positive-finite scale p) (positive-nonzero scale p))
+  length-number : (d : ℕ) → isNan (scaledOf scaled scale d) ≡ false
+  unfolding scaledOf
+  length-number d = by-test (λ (v : Float). isNan v ≡ false) scaled (mul binary64 (rootedOf d) scale) (rootedOf d)
+      (λ e. let p = o .scale-up e in scale-number binary64 (rootedOf d) scale (distance-number d) (positive-finite scale p) (positive-nonzero scale p))
       (λ _. distance-number d)
 
-  length-mono : (i j : ℕ) → i ≤ j → j ≤ far → le (lengthOf scaled scale i) (lengthOf scaled scale j) ≡ true
-  unfolding lengthOf
+  length-mono : (i j : ℕ) → i ≤ j → j ≤ far → le (scaledOf scaled scale i) (scaledOf scaled scale j) ≡ true
+  unfolding scaledOf
   length-mono i j a b = go scaled (o .scale-up) (length-number i) (length-number j)
     where
-      go : (s : Bool) → (s ≡ true → T (positive scale)) → isNan (cond s (mul binary64 (distanceOf i) scale) (distanceOf i)) ≡ false → isNan (cond s (mul binary64 (distanceOf j) scale) (distanceOf j)) ≡ false
-          → le (cond s (mul binary64 (distanceOf i) scale) (distanceOf i)) (cond s (mul binary64 (distanceOf j) scale) (distanceOf j)) ≡ true
-      go true p m n = mul-mono binary64 (distanceOf i) (distanceOf j) scale (zero-under false (pos 0) scale (positive-unsigned scale (p refl))) (distance-mono i j a b) m n
+      go : (s : Bool) → (s ≡ true → T (positive scale)) → isNan (cond s (mul binary64 (rootedOf i) scale) (rootedOf i)) ≡ false → isNan (cond s (mul binary64 (rootedOf j) scale) (rootedOf j)) ≡ false
+          → le (cond s (mul binary64 (rootedOf i) scale) (rootedOf i)) (cond s (mul binary64 (rootedOf j) scale) (rootedOf j)) ≡ true
+      go true p m n = mul-mono binary64 (rootedOf i) (rootedOf j) scale (zero-under false (pos 0) scale (positive-unsigned scale (p refl))) (distance-mono i j a b) m n
       go false p m n = distance-mono i j a b
 
   module _ (strict : Bool) where
@@ -64,9 +64,9 @@ module _ (scaled : Bool) (scale x : Float) (o : Ordered scaled scale x) where
     unfolding passesOf
     falls i j a b = go strict
       where
-        go : (s : Bool) → cond s (lt (lengthOf scaled scale j) x) (le (lengthOf scaled scale j) x) ≡ true → cond s (lt (lengthOf scaled scale i) x) (le (lengthOf scaled scale i) x) ≡ true
-        go true h = le-lt (lengthOf scaled scale i) (lengthOf scaled scale j) x (length-mono i j a b) h
-        go false h = le-le (lengthOf scaled scale i) (lengthOf scaled scale j) x (length-mono i j a b) h
+        go : (s : Bool) → cond s (lt (scaledOf scaled scale j) x) (le (scaledOf scaled scale j) x) ≡ true → cond s (lt (scaledOf scaled scale i) x) (le (scaledOf scaled scale i) x) ≡ true
+        go true h = le-lt (scaledOf scaled scale i) (scaledOf scaled scale j) x (length-mono i j a b) h
+        go false h = le-le (scaledOf scaled scale i) (scaledOf scaled scale j) x (length-mono i j a b) h
 
     pub told : (n : ℕ) → n ≤ far → Splits (passesOf scaled scale strict x) n → LimitOf scaled scale strict x true n
     told n high s = record { squares = λ _ d b. each d b; number = λ _. o .number; lengths = λ _ d. length-number d }
@@ -80,9 +80,9 @@ pub untold : (scaled : Bool) (scale : Float) (strict : Bool) (x : Float) (n : �
 untold scaled scale strict x n = record { squares = λ e. never e; number = λ e. never e; lengths = λ e. never e }
 
 -- above x is not at most x
-pub beyond-is : (scaled : Bool) (scale : Float) (strict : Bool) (x : Float) (t : Bool) (n d : ℕ) → LimitOf scaled scale strict x t n → t ≡ true → strict ≡ false → d ≤ far → leb n d ≡ lt x (lengthOf scaled scale d)
+pub beyond-is : (scaled : Bool) (scale : Float) (strict : Bool) (x : Float) (t : Bool) (n d : ℕ) → LimitOf scaled scale strict x t n → t ≡ true → strict ≡ false → d ≤ far → leb n d ≡ lt x (scaledOf scaled scale d)
 unfolding passesOf
 beyond-is scaled scale true x t n d l e s b = never (sym s)
 beyond-is scaled scale false x t n d l e s b = by-cases (ltb d n)
-    (λ k. lt-leb n d (ltb-true d n k) ∙ sym (le-not-lt (lengthOf scaled scale d) x (l .squares e d b ∙ k)))
-    (λ k. le-leb n d (ltb-false d n k) ∙ sym (not-le-lt x (lengthOf scaled scale d) (l .number e) (l .lengths e d) (l .squares e d b ∙ k)))
+    (λ k. lt-leb n d (ltb-true d n k) ∙ sym (le-not-lt (scaledOf scaled scale d) x (l .squares e d b ∙ k)))
+    (λ k. le-leb n d (ltb-false d n k) ∙ sym (not-le-lt x (scaledOf scaled scale d) (l .number e) (l .lengths e d) (l .squares e d b ∙ k)))

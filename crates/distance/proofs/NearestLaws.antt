@@ -10,7 +10,7 @@ use lib.ListN.{length, getD, take, drop, replicate, length-append, length-take, 
 use lib.Seq.{ext-getD, getD-append-add, getD-take, getD-drop}
 use lib.Dec.{eqb}
 use borrow.Author.Tests.{eqb-true, eqb-false}
-use Rattle.distance.specs.Least.{Least, some, none, far, Cell, at, gap, apart, Mark, Transformed, Sides}
+use Rattle.distance.specs.Least.{Least, some, none, far, Cell, at, gap, apart, Mark, Transformed, MapSides}
 use Rattle.distance.specs.Nearest.{nearestInRow, nearest, listed, squaresOf, transformOf}
 use Rattle.distance.proofs.NumberLaws.{lt-or-le, product, one-row}
 
@@ -90,7 +90,7 @@ module _ (mark : ℕ) (m : List ℕ) (nx ny : ℕ) (wide : nx ≤ 4096) (high : 
       (in-row n nx (omega arith) (omega arith))
 
 -- what `transform` promises of a cell, as an equation
-pub transformed-is : (mark : ℕ) (m : List ℕ) (nx ny : ℕ) (s t : List ℕ) → Sides nx ny → Transformed mark m nx ny s t → (i j : ℕ) → i < nx → j < ny → getD t (j * nx + i) 0 ≡ nearest mark m nx (at i j) ny
+pub transformed-is : (mark : ℕ) (m : List ℕ) (nx ny : ℕ) (s t : List ℕ) → MapSides nx ny → Transformed mark m nx ny s t → (i j : ℕ) → i < nx → j < ny → getD t (j * nx + i) 0 ≡ nearest mark m nx (at i j) ny
 transformed-is mark m nx ny s t z r i j a b = least-one (r .cell i j a b) (in-rows mark m nx ny (z .wide) (z .high) (at i j) a b ny (omega arith))
 
 module _ {A : Type 0} (f : ℕ → A) (d : A) where
@@ -111,13 +111,13 @@ module _ {A : Type 0} (f : ℕ → A) (d : A) where
       (lt-or-le k n)
 
 -- a square by its cell number
-pub square-at : (mark : ℕ) (m : List ℕ) (nx ny : ℕ) (s t : List ℕ) → Sides nx ny → Transformed mark m nx ny s t → (k : ℕ) → k < ny * nx → getD t k 0 ≡ nearest mark m nx (at (k % nx) (k / nx)) ny
+pub square-at : (mark : ℕ) (m : List ℕ) (nx ny : ℕ) (s t : List ℕ) → MapSides nx ny → Transformed mark m nx ny s t → (k : ℕ) → k < ny * nx → getD t k 0 ≡ nearest mark m nx (at (k % nx) (k / nx)) ny
 square-at mark m nx ny s t z r k h =
     ap (λ (i : ℕ). getD t i 0) (sym (div-add-mod' k nx))
     ∙ transformed-is mark m nx ny s t z r (k % nx) (k / nx) (mod-lt k (z .column)) (div-lt-iff-lt-mul (z .column) .1 h)
 
 -- the squares as a list
-pub squares-are : (mark : ℕ) (m : List ℕ) (nx ny : ℕ) (s t : List ℕ) → Sides nx ny → ny * nx ≤ length t → Transformed mark m nx ny s t → take (ny * nx) t ≡ squaresOf mark m nx ny
+pub squares-are : (mark : ℕ) (m : List ℕ) (nx ny : ℕ) (s t : List ℕ) → MapSides nx ny → ny * nx ≤ length t → Transformed mark m nx ny s t → take (ny * nx) t ≡ squaresOf mark m nx ny
 unfolding squaresOf
 squares-are mark m nx ny s t z long r = ext-getD 0 _ _ (whole ∙ sym (listed-long _ 0 (ny * nx)))
     (λ k h. let b : k < ny * nx = omega (arith, whole) in rw getD-take (square-at mark m nx ny s t z r k b ∙ sym (listed-at _ 0 (ny * nx) k b)))
@@ -138,7 +138,7 @@ abbrev zeros : ℕ → List ℕ
 zeros n = replicate n 0
 
 -- the lent slice as a whole
-pub work-is : (mark : ℕ) (m : List ℕ) (nx ny : ℕ) (s t : List ℕ) → Sides nx ny → ny * nx + 3 * nx ≤ length s → length t ≡ length s → Transformed mark m nx ny s t → t ≡ transformOf mark m nx ny s
+pub work-is : (mark : ℕ) (m : List ℕ) (nx ny : ℕ) (s t : List ℕ) → MapSides nx ny → ny * nx + 3 * nx ≤ length s → length t ≡ length s → Transformed mark m nx ny s t → t ≡ transformOf mark m nx ny s
 unfolding transformOf
 work-is mark m nx ny s t z long same r = two-parts 0 t (squaresOf mark m nx ny) (replicate (3 * nx) 0 ++ drop (ny * nx + 3 * nx) s)
     (simp (length-append, length-replicate, length-drop) (omega (arith, size)))
@@ -166,7 +166,7 @@ work-is mark m nx ny s t z long same r = two-parts 0 t (squaresOf mark m nx ny) 
 -- ---- for callers
 
 -- the room that `transform` wants, in a region of four maps
-pub room : (nx ny n : ℕ) → Sides nx ny → 4 * (ny * nx) ≤ n → ny * nx + 3 * nx ≤ n
+pub room : (nx ny n : ℕ) → MapSides nx ny → 4 * (ny * nx) ≤ n → ny * nx + 3 * nx ≤ n
 room nx ny n z h = omega (arith, one-row nx ny (z .row))
 
 -- a square that `transform` leaves

@@ -46,7 +46,7 @@ pub record Transformed (mark : ℕ) (m : List ℕ) (nx ny : ℕ) (s t : List ℕ
   pub rest : (k : ℕ) → ny * nx + 3 * nx ≤ k → getD t k 0 ≡ getD s k 0
 
 -- a map's sides
-pub record Sides (nx ny : ℕ) : Type 0 where
+pub record MapSides (nx ny : ℕ) : Type 0 where
   pub column : 0 < nx
   pub wide : nx ≤ 4096
   pub row : 0 < ny

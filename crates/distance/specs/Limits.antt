@@ -6,13 +6,13 @@ use lib.Dec.{T, ltb}
 use lib.Ieee.{Float, binary64, mul, lt, le, isNan}
 use lib.Ieee.Positive.{positive}
 use Rattle.distance.specs.Least.{far}
-use Rattle.distance.specs.Rooted.{distanceOf}
+use Rattle.distance.specs.Rooted.{rootedOf}
 
-unfoldable pub lengthOf : Bool → Float → ℕ → Float
-lengthOf scaled scale d = cond scaled (mul binary64 (distanceOf d) scale) (distanceOf d)
+unfoldable pub scaledOf : Bool → Float → ℕ → Float
+scaledOf scaled scale d = cond scaled (mul binary64 (rootedOf d) scale) (rootedOf d)
 
 unfoldable pub passesOf : Bool → Float → Bool → Float → ℕ → Bool
-passesOf scaled scale strict x d = cond strict (lt (lengthOf scaled scale d) x) (le (lengthOf scaled scale d) x)
+passesOf scaled scale strict x d = cond strict (lt (scaledOf scaled scale d) x) (le (scaledOf scaled scale d) x)
 
 -- n is the first square that fails a test
 pub record Splits (passes : ℕ → Bool) (n : ℕ) : Type 0 where
@@ -23,7 +23,7 @@ pub record Splits (passes : ℕ → Bool) (n : ℕ) : Type 0 where
 pub record LimitOf (scaled : Bool) (scale : Float) (strict : Bool) (x : Float) (told : Bool) (below : ℕ) : Type 0 where
   pub squares : told ≡ true → (d : ℕ) → d ≤ far → passesOf scaled scale strict x d ≡ ltb d below
   pub number : told ≡ true → isNan x ≡ false
-  pub lengths : told ≡ true → (d : ℕ) → isNan (lengthOf scaled scale d) ≡ false
+  pub lengths : told ≡ true → (d : ℕ) → isNan (scaledOf scaled scale d) ≡ false
 
 -- x is a number, and a scale, if there is one, is finite and above zero: then lengths have the order of the squares
 pub record Ordered (scaled : Bool) (scale x : Float) : Type 0 where

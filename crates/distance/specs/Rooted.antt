@@ -10,13 +10,13 @@ use Rattle.numbers.specs.Root.{rootOf}
 use Rattle.distance.specs.Least.{far, at}
 use Rattle.distance.specs.Nearest.{listed, nearest}
 
-unfoldable pub distanceOf : ℕ → Float
-distanceOf d = cond (eqb d far) (inf false) (rootOf (ofInt binary64 (pos d)))
+unfoldable pub rootedOf : ℕ → Float
+rootedOf d = cond (eqb d far) (inf false) (rootOf (ofInt binary64 (pos d)))
 
 -- the distances of the first n squares of q, and what stood in s beyond them
 unfoldable pub distancesOf : ℕ → List ℕ → List Float → List Float
-distancesOf n q s = listed n (λ k. distanceOf (getD q k 0)) ++ drop n s
+distancesOf n q s = listed n (λ k. rootedOf (getD q k 0)) ++ drop n s
 
 -- the Rust's `distance_transform`: the distances of the map, by cell number
 unfoldable pub distanceTransform : ℕ → List ℕ → ℕ → ℕ → List Float
-distanceTransform mark m nx ny = listed (ny * nx) (λ k. distanceOf (nearest mark m nx (at (k % nx) (k / nx)) ny))
+distanceTransform mark m nx ny = listed (ny * nx) (λ k. rootedOf (nearest mark m nx (at (k % nx) (k / nx)) ny))

@@ -2,7 +2,7 @@
 ghost use mathlib.Core.Path.{_≡_};
 ghost use Prim.Native.Nat.{_+_, _*_, _≤_, _<_};
 ghost use lib.ListN.{length};
-ghost use Rattle.distance.specs.Least.{Sides};
+ghost use Rattle.distance.specs.Least.{MapSides};
 ghost use Rattle.distance.specs.Column.{Down, Raised, fromAbove, fromBelow};
 
 // Rows that no column has: it has no mark.
@@ -33,7 +33,7 @@ fn from_below(here: u32, below: u32) -> u32
 
 // The first row.
 pub fn first(marks: &[u8], mark: u8, nx: usize, ny: usize, work: &mut [u32])
-    requires { ⌜ Sides nx ny ⌝ }
+    requires { ⌜ MapSides nx ny ⌝ }
     requires { ⌜ nx ≤ length (now marks) ⌝ }
     requires { ⌜ nx ≤ length (now work) ⌝ }
     ensures { λ _. ⌜ Down mark (now (marks .entry)) nx nx (now (work .entry)) (now (work .exit)) ⌝ }
@@ -46,7 +46,7 @@ pub fn first(marks: &[u8], mark: u8, nx: usize, ny: usize, work: &mut [u32])
 // The rows after it, each from the one above.
 pub fn down(marks: &[u8], mark: u8, nx: usize, ny: usize, cells: usize, work: &mut [u32])
     requires { ⌜ cells ≡ ny * nx ⌝ }
-    requires { ⌜ Sides nx ny ⌝ }
+    requires { ⌜ MapSides nx ny ⌝ }
     requires { ⌜ cells ≤ length (now marks) ⌝ }
     requires { ⌜ cells ≤ length (now work) ⌝ }
     requires { ⌜ Down mark (now marks) nx nx (now work) (now work) ⌝ }
@@ -60,7 +60,7 @@ pub fn down(marks: &[u8], mark: u8, nx: usize, ny: usize, cells: usize, work: &m
 // From the last row but one up, each from the one below.
 pub fn up(nx: usize, ny: usize, cells: usize, work: &mut [u32])
     requires { ⌜ cells ≡ ny * nx ⌝ }
-    requires { ⌜ Sides nx ny ⌝ }
+    requires { ⌜ MapSides nx ny ⌝ }
     requires { ⌜ cells ≤ length (now work) ⌝ }
     ensures { λ _. ⌜ Raised nx ny 0 (now (work .entry)) (now (work .exit)) ⌝ }
 {

@@ -4,7 +4,7 @@
 ghost use mathlib.Core.Path.{_≡_};
 ghost use Prim.Native.Nat.{_+_, _*_, _≤_};
 ghost use lib.ListN.{length};
-ghost use Rattle.distance.specs.Least.{Transformed, Sides};
+ghost use Rattle.distance.specs.Least.{Transformed, MapSides};
 ghost use Rattle.distance.specs.Nearest.{transformOf};
 
 mod columns;
@@ -19,7 +19,7 @@ pub const FAR: u32 = 4294967295;
 // The least squared distance of each cell to a cell whose byte is `mark`, FAR where there is none:
 // `work` begins with the map's squares. The 3 nx places after them are scratch, 0 in the end.
 pub fn transform(marks: &[u8], mark: u8, nx: usize, ny: usize, work: &mut [u32])
-    requires { ⌜ Sides nx ny ⌝ }
+    requires { ⌜ MapSides nx ny ⌝ }
     requires { ⌜ ny * nx ≤ length (now marks) ⌝ }
     requires { ⌜ ny * nx + 3 * nx ≤ length (now work) ⌝ }
     ensures { λ _. ⌜ Transformed mark (now (marks .entry)) nx ny (now (work .entry)) (now (work .exit)) ⌝ }

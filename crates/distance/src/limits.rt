@@ -3,11 +3,11 @@
 ghost use mathlib.Core.Path.{_≡_};
 ghost use mathlib.Core.Bool.{true, false};
 ghost use lib.Ieee as Ieee;
-ghost use Rattle.distance.specs.Limits.{lengthOf, passesOf, Splits, Ordered, LimitOf};
+ghost use Rattle.distance.specs.Limits.{scaledOf, passesOf, Splits, Ordered, LimitOf};
 use super::roots::distance_of;
 
 // A distance, times scale if scaled, is to be at most x, or below x if strict.
-pub struct Bound {
+pub struct Threshold {
     pub scaled: bool,
     pub scale: f64,
     pub strict: bool,
@@ -19,8 +19,8 @@ pub struct Limit {
     pub below: u32,
 }
 
-fn length(b: Bound, square: u32) -> f64
-    ensures { λ r. ⌜ r ≡ lengthOf (b .scaled) (b .scale) square ⌝ }
+fn length(b: Threshold, square: u32) -> f64
+    ensures { λ r. ⌜ r ≡ scaledOf (b .scaled) (b .scale) square ⌝ }
 {
     let d = distance_of(square);
     if b.scaled {
@@ -29,7 +29,7 @@ fn length(b: Bound, square: u32) -> f64
     d
 }
 
-fn passes(b: Bound, square: u32) -> bool
+fn passes(b: Threshold, square: u32) -> bool
     ensures { λ r. ⌜ r ≡ passesOf (b .scaled) (b .scale) (b .strict) (b .x) square ⌝ }
 {
     let v = length(b, square);
@@ -40,7 +40,7 @@ fn passes(b: Bound, square: u32) -> bool
 }
 
 // Whether n is the first square that fails.
-fn splits(b: Bound, n: u32) -> bool
+fn splits(b: Threshold, n: u32) -> bool
     ensures { λ r. ⌜ (r ≡ true → Splits (passesOf (b .scaled) (b .scale) (b .strict) (b .x)) n) ⌝ }
 {
     if passes(b, n) {
@@ -53,7 +53,7 @@ fn splits(b: Bound, n: u32) -> bool
 }
 
 // Whether x is below infinity, and a scale, if there is one, between 0 and infinity.
-fn ordered(b: Bound) -> bool
+fn ordered(b: Threshold) -> bool
     ensures { λ r. ⌜ (r ≡ true → Ordered (b .scaled) (b .scale) (b .x)) ⌝ }
 {
     let top = f64::from_bits(0x7ff0_0000_0000_0000);
@@ -64,7 +64,7 @@ fn ordered(b: Bound) -> bool
 }
 
 // Where the first square that fails is sought.
-fn guess(b: Bound) -> u32 {
+fn guess(b: Threshold) -> u32 {
     let y = if b.scaled { b.x / b.scale } else { b.x };
     if y < 0.0 {
         return 0;
@@ -72,7 +72,7 @@ fn guess(b: Bound) -> u32 {
     numbers::cast::sat_u32(y * y)
 }
 
-pub fn limit_of(b: Bound) -> Limit
+pub fn limit_of(b: Threshold) -> Limit
     ensures { λ r. ⌜ LimitOf (b .scaled) (b .scale) (b .strict) (b .x) (r .told) (r .below) ⌝ }
 {
     let g = guess(b);
@@ -94,7 +94,7 @@ pub fn limit_of(b: Bound) -> Limit
     }
 }
 
-pub fn is_within(b: Bound, l: Limit, square: u32) -> bool
+pub fn is_within(b: Threshold, l: Limit, square: u32) -> bool
     requires { ⌜ LimitOf (b .scaled) (b .scale) (b .strict) (b .x) (l .told) (l .below) ⌝ }
     ensures { λ r. ⌜ r ≡ passesOf (b .scaled) (b .scale) (b .strict) (b .x) square ⌝ }
 {
@@ -105,10 +105,10 @@ pub fn is_within(b: Bound, l: Limit, square: u32) -> bool
 }
 
 // Whether a distance is above x.
-pub fn beyond(b: Bound, l: Limit, square: u32) -> bool
+pub fn beyond(b: Threshold, l: Limit, square: u32) -> bool
     requires { ⌜ LimitOf (b .scaled) (b .scale) (b .strict) (b .x) (l .told) (l .below) ⌝ }
     requires { ⌜ b .strict ≡ false ⌝ }
-    ensures { λ r. ⌜ r ≡ Ieee.lt (b .x) (lengthOf (b .scaled) (b .scale) square) ⌝ }
+    ensures { λ r. ⌜ r ≡ Ieee.lt (b .x) (scaledOf (b .scaled) (b .scale) square) ⌝ }
 {
     if l.told {
         return l.below <= square;

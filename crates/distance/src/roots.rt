@@ -2,11 +2,11 @@
 ghost use mathlib.Core.Path.{_≡_};
 ghost use Prim.Native.Nat.{_≤_};
 ghost use lib.ListN.{length};
-ghost use Rattle.distance.specs.Rooted.{distanceOf, distancesOf};
+ghost use Rattle.distance.specs.Rooted.{rootedOf, distancesOf};
 use super::FAR;
 
 pub fn distance_of(square: u32) -> f64
-    ensures { λ r. ⌜ r ≡ distanceOf square ⌝ }
+    ensures { λ r. ⌜ r ≡ rootedOf square ⌝ }
 {
     if square == FAR {
         return f64::from_bits(0x7ff0_0000_0000_0000);

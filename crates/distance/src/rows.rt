@@ -4,7 +4,7 @@
 ghost use mathlib.Core.Path.{_≡_};
 ghost use Prim.Native.Nat.{_+_, _*_, _/_, _≤_, _<_};
 ghost use lib.ListN.{length, getD};
-ghost use Rattle.distance.specs.Least.{Sides};
+ghost use Rattle.distance.specs.Least.{MapSides};
 ghost use Rattle.distance.specs.Wrote.{Wrote};
 ghost use Rattle.distance.specs.Envelope.{Sound, Popped, Top, Rest, Taken, Stack, keyOf, heightOf, rowKeys, Filled, RowOf, RowsOf};
 use super::FAR;
@@ -166,7 +166,7 @@ fn row(work: &mut [u32], base: usize, s: usize, nx: usize)
 }
 
 pub fn all(nx: usize, ny: usize, s: usize, work: &mut [u32])
-    requires { ⌜ Sides nx ny ⌝ }
+    requires { ⌜ MapSides nx ny ⌝ }
     requires { ⌜ ny * nx ≤ s ⌝ }
     requires { ⌜ s + 3 * nx ≤ length (now work) ⌝ }
     ensures { λ _. ⌜ RowsOf nx ny s ny (now (work .entry)) (now (work .exit)) ⌝ }

@@ -8,10 +8,10 @@ use lib.Ieee.{Float, binary64, add, mul, div, le, lt}
 use Rattle.loops.specs.Cells.{ones}
 use Rattle.geom.specs.Vec.{v2, f0, sum, scaled, fromAngle}
 use Rattle.geom.specs.declared.vec2.Vec2.{Vec2}
-use Rattle.raster.specs.Grid.{float}
+use Rattle.numbers.specs.Cast.{float}
 use Rattle.raster.specs.Sweep.{overDisk, overCrescent}
 use Rattle.raster.specs.Stock.{wipeCell}
-use Rattle.raster.specs.Contact.{tau}
+use Rattle.numbers.specs.Circle.{tau}
 use Rattle.raster.specs.declared.grid.Grid.{Grid}
 use Rattle.events.specs.Chunk.{Point, Chunk, helix, plunge, link, cut, Job}
 

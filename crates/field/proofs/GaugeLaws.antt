@@ -10,11 +10,11 @@ use Rattle.loops.specs.Cells.{number}
 use Rattle.numbers.specs.Narrow.{narrowOf}
 use Rattle.numbers.specs.Small.{f2}
 use Rattle.geom.specs.declared.vec2.Vec2.{Vec2}
-use Rattle.distance.specs.Limits.{lengthOf, passesOf}
-use Rattle.distance.specs.Rooted.{distanceOf}
-use Rattle.distance.specs.declared.limits.Bound.{Bound}
+use Rattle.distance.specs.Limits.{scaledOf, passesOf}
+use Rattle.distance.specs.Rooted.{rootedOf}
+use Rattle.distance.specs.declared.limits.Threshold.{Threshold}
 use Rattle.raster.specs.Grid.{centerOf}
-use Rattle.raster.specs.Contact.{tau}
+use Rattle.numbers.specs.Circle.{tau}
 use Rattle.setup.specs.Place.{contactAt}
 use Rattle.setup.specs.declared.Setup.{Setup}
 use Rattle.field.specs.Field.{f3h, s0, highOf, lowOf, reachOf, value, valueOf, valueAt, wantedAt, sensed, putValue, fieldCell}
@@ -50,24 +50,24 @@ module _ (g : Gauge) (h : Gauged g) (allowed near : List ℕ) (k : ℕ) where
     wanted-all a = rw (e, a) refl
 
     pub wanted-near : g .all ≡ false → (b : Bool) → b ≡ passesOf (g .near .bound .scaled) (g .near .bound .scale) (g .near .bound .strict) (g .near .bound .x) (getD near k 0) → b ≡ wantedAt (g .setup) (g .all) allowed near k
-    unfolding wantedAt passesOf lengthOf
-    wanted-near a b B = rw (e, a) (B ∙ ap (λ (q : Bound). passesOf (q .scaled) (q .scale) (q .strict) (q .x) (getD near k 0)) (h .near .is))
+    unfolding wantedAt passesOf scaledOf
+    wanted-near a b B = rw (e, a) (B ∙ ap (λ (q : Threshold). passesOf (q .scaled) (q .scale) (q .strict) (q .x) (getD near k 0)) (h .near .is))
 
 -- ---- its value
 
-module _ (g : Gauge) (h : Gauged g) (map stock : List ℕ) (i j : ℕ) (b : Bool) (B : b ≡ lt (g .far .bound .x) (lengthOf (g .far .bound .scaled) (g .far .bound .scale) (getD stock (number (g .setup .grid .nx) i j) 0))) where
-  is-far : b ≡ lt (highOf (g .setup)) (mul binary64 (distanceOf (getD stock (number (g .setup .grid .nx) i j) 0)) (g .setup .grid .cell))
-  unfolding lengthOf
-  is-far = B ∙ ap (λ (q : Bound). lt (q .x) (lengthOf (q .scaled) (q .scale) (getD stock (number (g .setup .grid .nx) i j) 0))) (h .far .is)
+module _ (g : Gauge) (h : Gauged g) (map stock : List ℕ) (i j : ℕ) (b : Bool) (B : b ≡ lt (g .far .bound .x) (scaledOf (g .far .bound .scaled) (g .far .bound .scale) (getD stock (number (g .setup .grid .nx) i j) 0))) where
+  is-far : b ≡ lt (highOf (g .setup)) (mul binary64 (rootedOf (getD stock (number (g .setup .grid .nx) i j) 0)) (g .setup .grid .cell))
+  unfolding scaledOf
+  is-far = B ∙ ap (λ (q : Threshold). lt (q .x) (scaledOf (q .scaled) (q .scale) (getD stock (number (g .setup .grid .nx) i j) 0))) (h .far .is)
 
   pub value-far : b ≡ true → value s0 false ≡ valueAt (g .setup) map stock i j
   unfolding valueAt valueOf
   value-far e = rw (← is-far, e) refl
 
   module _ (e : b ≡ false) (c : Bool) (C : c ≡ passesOf (g .deep .bound .scaled) (g .deep .bound .scale) (g .deep .bound .strict) (g .deep .bound .x) (getD stock (number (g .setup .grid .nx) i j) 0)) where
-    is-deep : c ≡ lt (mul binary64 (distanceOf (getD stock (number (g .setup .grid .nx) i j) 0)) (g .setup .grid .cell)) (lowOf (g .setup))
-    unfolding passesOf lengthOf
-    is-deep = C ∙ ap (λ (q : Bound). passesOf (q .scaled) (q .scale) (q .strict) (q .x) (getD stock (number (g .setup .grid .nx) i j) 0)) (h .deep .is)
+    is-deep : c ≡ lt (mul binary64 (rootedOf (getD stock (number (g .setup .grid .nx) i j) 0)) (g .setup .grid .cell)) (lowOf (g .setup))
+    unfolding passesOf scaledOf
+    is-deep = C ∙ ap (λ (q : Threshold). passesOf (q .scaled) (q .scale) (q .strict) (q .x) (getD stock (number (g .setup .grid .nx) i j) 0)) (h .deep .is)
 
     pub value-deep : c ≡ true → value (g .full) false ≡ valueAt (g .setup) map stock i j
     unfolding valueAt valueOf

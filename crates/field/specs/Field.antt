@@ -1,5 +1,5 @@
 -- The engagement field, as `field` of adaptive.rs: at each allowed cell the angle of the tool's whole rim over stock. Distances are squares of whole numbers,
--- and `distanceOf` of one is what the Rust's transform has. Definitions only.
+-- and `rootedOf` of one is what the Rust's transform has. Definitions only.
 use Prim.Native.Nat.{ℕ, _+_, _-_}
 use mathlib.Core.Bool.{Bool, true, false, cond, _&&_, _||_}
 use mathlib.Core.List.{List}
@@ -10,10 +10,10 @@ use Rattle.loops.specs.Loop.{loop}
 use Rattle.loops.specs.Cells.{number}
 use Rattle.numbers.specs.Narrow.{narrowOf}
 use Rattle.numbers.specs.Small.{f2, f3}
-use Rattle.distance.specs.Rooted.{distanceOf}
+use Rattle.distance.specs.Rooted.{rootedOf}
 use Rattle.distance.specs.Nearest.{squaresOf}
 use Rattle.raster.specs.Grid.{centerOf}
-use Rattle.raster.specs.Contact.{tau}
+use Rattle.numbers.specs.Circle.{tau}
 use Rattle.setup.specs.Place.{contactAt, biteOf}
 use Rattle.setup.specs.declared.Setup.{Setup}
 use Rattle.field.specs.declared.gauge.Value.{Value}
@@ -56,11 +56,11 @@ valueOf s map d i j =
     (value (narrowOf (contactAt s map (centerOf (s .grid) i j) (s .r))) true))
 
 unfoldable pub valueAt : Setup → List ℕ → List ℕ → ℕ → ℕ → Value
-valueAt s map stock i j = valueOf s map (mul binary64 (distanceOf (getD stock (number (s .grid .nx) i j) 0)) (s .grid .cell)) i j
+valueAt s map stock i j = valueOf s map (mul binary64 (rootedOf (getD stock (number (s .grid .nx) i j) 0)) (s .grid .cell)) i j
 
 -- cell k is allowed, and all cells are worked out anew or it is near enough to a cell that was cut
 unfoldable pub wantedAt : Setup → Bool → List ℕ → List ℕ → ℕ → Bool
-wantedAt s all allowed near k = eqb (getD allowed k 0) 1 && (all || le (distanceOf (getD near k 0)) (reachOf s))
+wantedAt s all allowed near k = eqb (getD allowed k 0) 1 && (all || le (rootedOf (getD near k 0)) (reachOf s))
 
 -- ---- the field, and how many of its cells were sampled
 

@@ -6,8 +6,9 @@ use lib.ListN.{length}
 use lib.Ieee.{Float}
 use Rattle.numbers.specs.Narrow.{narrowOf}
 use Rattle.distance.specs.Limits.{LimitOf}
-use Rattle.distance.specs.declared.limits.Bound.{Bound}
-use Rattle.raster.specs.Contact.{tau, samplesOf, Rim}
+use Rattle.distance.specs.declared.limits.Threshold.{Threshold}
+use Rattle.raster.specs.Contact.{samplesOf, Rim}
+use Rattle.numbers.specs.Circle.{tau}
 use Rattle.setup.specs.declared.Setup.{Setup}
 use Rattle.field.specs.declared.gauge.Test.{Test}
 use Rattle.field.specs.declared.gauge.Gauge.{Gauge}
@@ -15,11 +16,11 @@ use Prim.Native.Nat.{ℕ, _*_, _≤_}
 use Rattle.raster.specs.Grid.{Over}
 use Rattle.field.specs.Field.{highOf, lowOf, reachOf}
 
-abbrev pub bound : Bool → Float → Bool → Float → Bound
+abbrev pub bound : Bool → Float → Bool → Float → Threshold
 bound scaled scale strict x = record { scaled = scaled; scale = scale; strict = strict; x = x }
 
 -- a bound with its limit
-pub record TestOf (b : Bound) (t : Test) : Type 0 where
+pub record TestOf (b : Threshold) (t : Test) : Type 0 where
   pub is : t .bound ≡ b
   pub limit : LimitOf (t .bound .scaled) (t .bound .scale) (t .bound .strict) (t .bound .x) (t .limit .told) (t .limit .below)
 

@@ -7,18 +7,17 @@ ghost use Rattle.raster.specs.Grid.{Over};
 ghost use Rattle.raster.specs.Contact.{samplesOf, Rim};
 ghost use Rattle.field.specs.Field.{lowOf, valueAt, wantedAt};
 ghost use Rattle.field.specs.Gauge.{TestOf, Gauged};
-use distance::limits::Bound;
 use distance::limits::Limit;
+use distance::limits::Threshold;
 use distance::limits::beyond;
 use distance::limits::is_within;
 use distance::limits::limit_of;
+use numbers::circle::TAU;
 use setup::Setup;
-
-const TAU: f64 = 6.28318530717958647692528676655900577;
 
 // A bound of distances, and the limit of their squares.
 pub struct Test {
-    pub bound: Bound,
+    pub bound: Threshold,
     pub limit: Limit,
 }
 
@@ -39,7 +38,7 @@ pub struct Value {
     pub sampled: bool,
 }
 
-fn test_of(b: Bound) -> Test
+fn test_of(b: Threshold) -> Test
     ensures { λ t. ⌜ TestOf b t ⌝ }
 {
     let limit = limit_of(b);
@@ -58,19 +57,19 @@ pub fn gauge_of(s: Setup, all: bool) -> Gauge
     ensures { λ g. ⌜ (g .setup ≡ s) × (g .all ≡ all) × Gauged g ⌝ }
 {
     let c = s.grid.cell;
-    let far = test_of(Bound {
+    let far = test_of(Threshold {
         scaled: true,
         scale: c,
         strict: false,
         x: s.r + 1.5 * c,
     });
-    let deep = test_of(Bound {
+    let deep = test_of(Threshold {
         scaled: true,
         scale: c,
         strict: true,
         x: low_of(s),
     });
-    let near = test_of(Bound {
+    let near = test_of(Threshold {
         scaled: false,
         scale: c,
         strict: false,

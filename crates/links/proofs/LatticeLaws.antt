@@ -17,8 +17,8 @@ use Rattle.numbers.specs.Order.{maxOf}
 use Rattle.numbers.proofs.MaxLaws.{max-ge-right}
 use Rattle.numbers.specs.Small.{f1}
 use Rattle.geom.specs.declared.vec2.Vec2.{Vec2}
-use Rattle.distance.specs.Limits.{lengthOf, LimitOf}
-use Rattle.distance.specs.declared.limits.Bound.{Bound}
+use Rattle.distance.specs.Limits.{scaledOf, LimitOf}
+use Rattle.distance.specs.declared.limits.Threshold.{Threshold}
 use Rattle.distance.specs.declared.limits.Limit.{Limit}
 use Rattle.raster.specs.Grid.{Sides, numbered, centerOf}
 use Rattle.raster.specs.declared.grid.Grid.{Grid}
@@ -180,17 +180,17 @@ cell-is l v i j c I J C = rw (← I, ← J) C
 
 -- ---- free nodes
 
-pub limited-bound : (l : Lattice) (m : Limit) (b : Bound) → b ≡ boundOf (l .margin) → Limited l m → LimitOf (b .scaled) (b .scale) (b .strict) (b .x) (m .told) (m .below) × (b .strict ≡ false)
-limited-bound l m b e h = (subst (λ (c : Bound). LimitOf (c .scaled) (c .scale) (c .strict) (c .x) (m .told) (m .below)) (sym e) h, ap (λ (c : Bound). c .strict) e)
+pub limited-bound : (l : Lattice) (m : Limit) (b : Threshold) → b ≡ boundOf (l .margin) → Limited l m → LimitOf (b .scaled) (b .scale) (b .strict) (b .x) (m .told) (m .below) × (b .strict ≡ false)
+limited-bound l m b e h = (subst (λ (c : Threshold). LimitOf (c .scaled) (c .scale) (c .strict) (c .x) (m .told) (m .below)) (sym e) h, ap (λ (c : Threshold). c .strict) e)
 
 module _ (l : Lattice) (allowed squares : List ℕ) (v : NodeNo) (k : ℕ) (K : k ≡ cellOfNode l v .0) where
   pub free-not : (getD allowed k 0 ≡ 1 → ⊥) → false ≡ nodeFree l allowed squares v
   unfolding nodeFree
   free-not h = rw (← K, ne-eqb (getD allowed k 0) 1 h)
 
-  pub free-judged : getD allowed k 0 ≡ 1 → (b : Bound) → b ≡ boundOf (l .margin) → (t : Bool) → t ≡ lt (b .x) (lengthOf (b .scaled) (b .scale) (getD squares k 0)) → t ≡ nodeFree l allowed squares v
-  unfolding nodeFree lengthOf
-  free-judged h b d t e = rw (← K, h) (e ∙ ap (λ (c : Bound). lt (c .x) (lengthOf (c .scaled) (c .scale) (getD squares k 0))) d)
+  pub free-judged : getD allowed k 0 ≡ 1 → (b : Threshold) → b ≡ boundOf (l .margin) → (t : Bool) → t ≡ lt (b .x) (scaledOf (b .scaled) (b .scale) (getD squares k 0)) → t ≡ nodeFree l allowed squares v
+  unfolding nodeFree scaledOf
+  free-judged h b d t e = rw (← K, h) (e ∙ ap (λ (c : Threshold). lt (c .x) (scaledOf (c .scaled) (c .scale) (getD squares k 0))) d)
 
 -- ---- neighbours
 

@@ -21,7 +21,7 @@ use Rattle.geom.specs.Points.{putPoint, points}
 use Rattle.geom.specs.declared.vec2.Vec2.{Vec2}
 use Rattle.distance.specs.Least as least
 use Rattle.distance.specs.Nearest.{squaresOf}
-use Rattle.distance.specs.Rooted.{distanceOf, distanceTransform}
+use Rattle.distance.specs.Rooted.{rootedOf, distanceTransform}
 use Rattle.distance.proofs.NearestLaws.{listed-at, squares-are}
 use Rattle.raster.specs.Grid.{Over, cellOf}
 use Rattle.raster.specs.Contact.{samplesOf, Rim}
@@ -49,7 +49,7 @@ use Rattle.links.proofs.ShortenLaws.{part-at, fitted-only, path-long}
 -- ---- the squares, then the search
 
 module _ (l : Lattice) (L : Laid l) (m : List ℕ) (M : cells l ≤ length m) (u : List ℕ) (A : 15 * cells l ≤ length u) (b : ℕ) (B : b ≡ 5 * cells l) where
-  sides : least.Sides (l .grid .nx) (l .grid .ny)
+  sides : least.MapSides (l .grid .nx) (l .grid .ny)
   sides = let s = L .sides in record { column = s .wide; wide = s .columns; row = s .high; high = s .rows }
 
   part : Fits 0 b u
@@ -61,7 +61,7 @@ module _ (l : Lattice) (L : Laid l) (m : List ℕ) (M : cells l ≤ length m) (u
   narrow : cells l + 3 * l .grid .nx ≤ 4 * cells l
   narrow = let z : 1 * l .grid .nx ≤ cells l = mul-le-mul-right (l .grid .nx) (L .sides .high) in omega arith
 
-  pub transform-asks : least.Sides (l .grid .nx) (l .grid .ny) × ((cells l ≤ length m) × (cells l + 3 * l .grid .nx ≤ length (take (b - 0) (drop 0 u))))
+  pub transform-asks : least.MapSides (l .grid .nx) (l .grid .ny) × ((cells l ≤ length m) × (cells l + 3 * l .grid .nx ≤ length (take (b - 0) (drop 0 u))))
   transform-asks = (sides, (M, omega (arith, room, narrow)))
 
   module _ (t : List ℕ) (T : least.Transformed 1 m (l .grid .nx) (l .grid .ny) (take (b - 0) (drop 0 u)) t) (K : length t ≡ length (take (b - 0) (drop 0 u))) where
@@ -90,9 +90,9 @@ module _ (l : Lattice) (L : Laid l) (m : List ℕ) (M : cells l ≤ length m) (u
         (X ∙ ap (seekOf l allowed) transformed-squares, (only-more 0 (15 * cells l) u (record { start = omega arith; end = A }) u₁ first u₂ all, Z))
 
 -- a node's distance by its square is that of the Rust's `distance_transform`
-pub square-distance : (m : List ℕ) (nx ny k : ℕ) → k < ny * nx → distanceOf (getD (squaresOf 1 m nx ny) k 0) ≡ getD (distanceTransform 1 m nx ny) k nan
+pub square-distance : (m : List ℕ) (nx ny k : ℕ) → k < ny * nx → rootedOf (getD (squaresOf 1 m nx ny) k 0) ≡ getD (distanceTransform 1 m nx ny) k nan
 unfolding squaresOf distanceTransform
-square-distance m nx ny k h = ap distanceOf (listed-at _ 0 (ny * nx) k h) ∙ sym (listed-at _ nan (ny * nx) k h)
+square-distance m nx ny k h = ap rootedOf (listed-at _ 0 (ny * nx) k h) ∙ sym (listed-at _ nan (ny * nx) k h)
 
 -- ---- the path back, then its shortening
 

@@ -11,7 +11,7 @@ use Rattle.numbers.specs.Order.{maxOf}
 use Rattle.numbers.specs.Small.{f1}
 use Rattle.geom.specs.Vec.{f0, distanceOf, lerpOf}
 use Rattle.geom.specs.declared.vec2.Vec2.{Vec2}
-use Rattle.raster.specs.Grid.{float}
+use Rattle.numbers.specs.Cast.{float}
 use Rattle.raster.specs.Stock.{countDisk}
 use Rattle.setup.specs.Place.{allowedAt, contactAt}
 use Rattle.setup.specs.declared.Setup.{Setup}

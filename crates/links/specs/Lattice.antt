@@ -11,8 +11,8 @@ use Rattle.numbers.specs.Order.{maxOf}
 use Rattle.numbers.specs.Small.{f1}
 use Rattle.geom.specs.declared.vec2.Vec2.{Vec2}
 use Rattle.distance.specs.Limits.{LimitOf}
-use Rattle.distance.specs.Rooted.{distanceOf}
-use Rattle.distance.specs.declared.limits.Bound.{Bound}
+use Rattle.distance.specs.Rooted.{rootedOf}
+use Rattle.distance.specs.declared.limits.Threshold.{Threshold}
 use Rattle.distance.specs.declared.limits.Limit.{Limit}
 use Rattle.raster.specs.Grid.{Sides, numbered, centerOf}
 use Rattle.raster.specs.declared.grid.Grid.{Grid}
@@ -80,7 +80,7 @@ centreOf l v = centreAt (l .grid) (l .k) (v .0 % l .gx) (v .0 / l .gx)
 unfoldable pub nodeFree : Lattice → List ℕ → List ℕ → NodeNo → Bool
 nodeFree l allowed squares v =
     let idx = cellOfNode l v .0 in
-    eqb (getD allowed idx 0) 1 && lt (l .margin) (distanceOf (getD squares idx 0))
+    eqb (getD allowed idx 0) 1 && lt (l .margin) (rootedOf (getD squares idx 0))
 
 -- ---- neighbours
 
@@ -115,7 +115,7 @@ pub record Laid (l : Lattice) : Type 0 where
   pub last : IsNode l (l .goal)
 
 -- a distance is to be at most x
-abbrev pub boundOf : Float → Bound
+abbrev pub boundOf : Float → Threshold
 boundOf x = record { scaled = false; scale = f1; strict = false; x = x }
 
 -- what the squares up to the margin are

@@ -2,7 +2,7 @@
 use mathlib.Core.Path.{_≡_}
 use mathlib.Core.Bool.{Bool, false}
 use mathlib.Core.List.{List}
-use Prim.Native.Nat.{ℕ, _+_, _-_, _≤_, _<_, max}
+use Prim.Native.Nat.{ℕ, _+_, _≤_, _<_, max}
 use lib.Ieee.{Float}
 use Rattle.links.specs.declared.heap.Entry.{Entry}
 use Rattle.links.specs.Heap.{beforeOf, one, countTo, parent, Ordered, entryAt, SameLong}

@@ -8,8 +8,8 @@ ghost use Rattle.links.specs.Lattice.{spacingOf, along, centreAt, nodeAt
 ghost use Rattle.links.specs.Lattice.{besideX, besideY, onLattice, besideOf, IsNode, Laid, boundOf, Limited};
 use super::NodeNo;
 use super::index_of_node;
-use distance::limits::Bound;
 use distance::limits::Limit;
+use distance::limits::Threshold;
 use geom::vec2::Vec2;
 use raster::grid::CellNo;
 use raster::grid::Grid;
@@ -139,10 +139,10 @@ pub fn centre(l: Lattice, v: NodeNo) -> Vec2
     centre_at(g, l.k, a % l.gx, a / l.gx)
 }
 
-fn bound_of(x: f64) -> Bound
+fn bound_of(x: f64) -> Threshold
     ensures { λ b. ⌜ b ≡ boundOf x ⌝ }
 {
-    Bound {
+    Threshold {
         scaled: false,
         scale: 1.0,
         strict: false,

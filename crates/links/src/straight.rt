@@ -7,7 +7,7 @@ ghost use Rattle.raster.specs.Contact.{samplesOf, Rim};
 ghost use Rattle.setup.specs.Place.{Walls};
 ghost use Rattle.links.specs.Straight.{stepsOf, pointOf, clearAt, samplesClear, linkClear};
 use geom::vec2::Vec2;
-use raster::grid::float_of;
+use numbers::cast::float_of;
 use setup::Setup;
 
 // A sample for each cell of the way, at least one.

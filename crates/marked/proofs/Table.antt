@@ -19,7 +19,7 @@ use Rattle.raster.specs.Contact.{samplesOf, directionAt, rimAt, hitAt, hitsOf, 
 use Rattle.raster.specs.Sort.{precedes, swapped, sunk, sortedOf}
 use Rattle.raster.specs.Fill.{between, pairSpan, pairAt, fillPair, fillRow, rowCrossings, fillAt, fillRegion}
 use Rattle.distance.specs.Nearest.{nearestInRow, nearest, listed, squaresOf, transformOf}
-use Rattle.distance.specs.Rooted.{distanceOf, distancesOf}
+use Rattle.distance.specs.Rooted.{rootedOf, distancesOf}
 use Rattle.passes.specs.Worth.{wantedOf}
 use Rattle.marked.specs.Table.{Table}
 
@@ -29,7 +29,7 @@ unfolding ofBits toBits round narrowOf rootOf cosOf sinOf cosSeries sinSeries of
     crossingsOf reachOf spansOf fitOf gridOf sizedOf newGrid onGrid cellOf stockAt rowY cellAt firstFrom colsOf diskRow lastRow rowsOf leftOf rightOf less crescentRow
     overSpan diskAt overDisk crescentAt overCrescent dropCell clearDisk clearCell clearAfter undone samplesOf directionAt rimAt hitAt hitsOf angleOf
     engagementOf precedes swapped sunk sortedOf between pairSpan pairAt fillPair fillRow rowCrossings fillAt fillRegion nearestInRow nearest listed
-    squaresOf transformOf distanceOf distancesOf wantedOf
+    squaresOf transformOf rootedOf distancesOf wantedOf
 table = record {
   numbers = record { cosine = refl; root = refl; narrow-even = refl; narrow-odd = refl };
   disks = record { once = refl; twice = refl };

@@ -9,7 +9,7 @@ use lib.Ieee.{Float, nan, inf, binary32, binary64, ofBits}
 use Rattle.loops.specs.Cells.{ones}
 use Rattle.numbers.specs.Narrow.{narrowOf}
 use Rattle.numbers.specs.Root.{rootOf}
-use Rattle.numbers.specs.Circle.{cosOf}
+use Rattle.numbers.specs.Circle.{cosOf, tau}
 use Rattle.numbers.specs.Small.{f1, f2, f4}
 use Rattle.geom.specs.Vec.{v2, f0}
 use Rattle.geom.specs.declared.vec2.Vec2.{Vec2}
@@ -17,7 +17,7 @@ use Rattle.geom.specs.declared.region.Region.{Region}
 use Rattle.raster.specs.Grid.{newGrid, cellOf}
 use Rattle.raster.specs.Stock.{clearDisk}
 use Rattle.raster.specs.Log.{Stock, st, clearAfter, undone}
-use Rattle.raster.specs.Contact.{tau, samplesOf, engagementOf}
+use Rattle.raster.specs.Contact.{samplesOf, engagementOf}
 use Rattle.raster.specs.Fill.{fillRegion}
 use Rattle.raster.specs.declared.grid.Grid.{Grid}
 use Rattle.raster.specs.declared.grid.Raster.the-variants.{Of}

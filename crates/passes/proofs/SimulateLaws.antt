@@ -15,7 +15,8 @@ use Rattle.geom.specs.Region.{vertexOf}
 use Rattle.geom.specs.Points.{points}
 use Rattle.geom.specs.declared.vec2.Vec2.{Vec2}
 use Rattle.geom.proofs.PointLaws.{points-get, points-length}
-use Rattle.raster.specs.Grid.{Over, float}
+use Rattle.raster.specs.Grid.{Over}
+use Rattle.numbers.specs.Cast.{float}
 use Rattle.raster.specs.Log.{Stock, st, Ready, clearAfter}
 use Rattle.raster.specs.declared.grid.Grid.{Grid}
 use Rattle.raster.proofs.LogLaws.{Kept, kept-none, kept-cell, keep-after, ready-kept}

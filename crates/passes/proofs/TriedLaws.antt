@@ -8,21 +8,17 @@ use native.Mathlib.Omega.{arith}
 use lib.ListN.{length, getD, set, length-set, length-append}
 use lib.Seq.{getD-set-same, getD-set-other}
 use lib.Dec.{leb}
-use lib.Ieee.{Float, nan, binary64, ofBits, add, mul, lt, le}
+use lib.Ieee.{Float, nan}
 use borrow.Author.Tests.{leb-false}
 use Rattle.loops.specs.Loop.{loop, on, turn}
 use Rattle.loops.specs.Cells.{ones}
 use Rattle.loops.proofs.Cases.{by-test}
-use Rattle.numbers.specs.Circle.{radiansOf}
-use Rattle.numbers.specs.Small.{f1, quarter}
 use Rattle.geom.specs.Vec.{v2, f0}
 use Rattle.geom.specs.declared.vec2.Vec2.{Vec2}
 use Rattle.raster.specs.Log.{Stock, st, Ready, clearAfter, passes}
 use Rattle.raster.proofs.RunLaws.{kept-passes}
-use Rattle.setup.specs.Limits.{guardOf, targetOf}
 use Rattle.setup.specs.Place.{allowedAt, contactAt}
 use Rattle.setup.specs.declared.Setup.{Setup}
-use Rattle.setup.proofs.LimitLaws.{target-at-most}
 use Rattle.events.specs.Chunk.{Point, Chunk, Entry, Job}
 use Rattle.events.specs.Lent.{tripleAt, allTriples, Holds, HoldsTrial, setTriple}
 use Rattle.events.specs.Read.{pointAt, pointsFrom}

@@ -10,7 +10,8 @@ use Rattle.numbers.specs.Whole.{ceilOf}
 use Rattle.numbers.specs.Small.{f2, half, quarter, tiny}
 use Rattle.geom.specs.Vec.{v2, f0, difference, lerpOf, perpOf, distanceOf, lengthOf, normalizedOf}
 use Rattle.geom.specs.declared.vec2.Vec2.{Vec2}
-use Rattle.raster.specs.Grid.{Over, float}
+use Rattle.raster.specs.Grid.{Over}
+use Rattle.numbers.specs.Cast.{float}
 use Rattle.raster.specs.Log.{st, Ready, clearAfter}
 use Rattle.setup.specs.declared.Setup.{Setup}
 use Rattle.events.specs.Lent.{tripleAt, setTriple}

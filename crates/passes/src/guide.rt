@@ -13,10 +13,9 @@ ghost use Rattle.passes.specs.Guide.{pathLength, lengthSoFar, bentAt, af
 ghost use Rattle.passes.specs.Guide.{roundTo, walkOf, flat, pointsIn, laid, blendIn, laidIn, isSome, Ahead};
 use geom::region::vertex;
 use geom::vec2::Vec2;
+use numbers::circle::PI;
 use setup::Setup;
 use setup::place::bite_of;
-
-const PI: f64 = 3.14159265358979323846264338327950288;
 
 // How a guide is bent: over what length, and how far out at its start.
 pub enum Blend {

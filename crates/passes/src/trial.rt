@@ -12,7 +12,7 @@ use super::shifts::find_shift;
 use super::shifts::max_shift;
 use geom::region::vertex;
 use geom::vec2::Vec2;
-use raster::grid::float_of;
+use numbers::cast::float_of;
 use setup::Setup;
 
 // A straight part of the guide, its free side and its samples; none where it has no length.

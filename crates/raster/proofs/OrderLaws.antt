@@ -20,7 +20,8 @@ use Rattle.numbers.specs.Root.{rootOf}
 use Rattle.geom.specs.Vec.{f0}
 use Rattle.floats.proofs.OrderLaws.{not-lt-le}
 use Rattle.floats.proofs.IndexLaws.{cut-mono}
-use Rattle.raster.specs.Grid.{Sides, float}
+use Rattle.raster.specs.Grid.{Sides}
+use Rattle.numbers.specs.Cast.{float}
 use Rattle.raster.specs.Disk.{rowY, cellAt, firstFrom, colsOf, diskRow, crescentRow, rowsOf, leftOf, rightOf, less, two}
 use Rattle.raster.specs.Sweep.{overSpan, diskAt, overDisk, crescentAt, overCrescent}
 use Rattle.raster.specs.Stock.{Cleared, cl, dropCell, clearDisk, tally, countDisk}

@@ -14,7 +14,8 @@ use Rattle.geom.specs.declared.vec2.Vec2.{Vec2}
 use Rattle.loops.proofs.Cases.{by-test, both}
 use Rattle.loops.proofs.CellLaws.{row-below}
 use Rattle.floats.proofs.IndexLaws.{index-not-le}
-use Rattle.raster.specs.Grid.{float, Sides}
+use Rattle.raster.specs.Grid.{Sides}
+use Rattle.numbers.specs.Cast.{float}
 use Rattle.raster.specs.Disk.{rowY, cellAt, firstFrom, colsOf, diskRow, lastRow, rowsOf, leftOf, rightOf, less, two, crescentRow}
 use Rattle.raster.specs.Sweep.{Inside}
 use Rattle.raster.specs.declared.grid.Grid.{Grid}

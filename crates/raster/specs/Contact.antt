@@ -4,17 +4,16 @@ use mathlib.Core.Path.{_≡_}
 use mathlib.Core.Bool.{cond}
 use mathlib.Core.List.{List}
 use lib.ListN.{length, getD}
-use lib.Ieee.{Float, nan, binary64, ofBits, add, mul, div}
+use lib.Ieee.{Float, nan, binary64, add, mul, div}
 use Rattle.loops.specs.Loop.{loop}
+use Rattle.numbers.specs.Circle.{tau}
 use Rattle.numbers.specs.Small.{half}
 use Rattle.geom.specs.Points.{putPoint}
 use Rattle.geom.specs.Vec.{sum, scaled, fromAngle}
 use Rattle.geom.specs.declared.vec2.Vec2.{Vec2}
-use Rattle.raster.specs.Grid.{float, stockAt}
+use Rattle.raster.specs.Grid.{stockAt}
+use Rattle.numbers.specs.Cast.{float}
 use Rattle.raster.specs.declared.grid.Grid.{Grid}
-
-abbrev pub tau : Float
-tau = ofBits binary64 0x4019_21fb_5444_2d18
 
 -- at least 8 samples
 unfoldable pub samplesOf : ℕ → ℕ

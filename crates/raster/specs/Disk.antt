@@ -9,7 +9,8 @@ use Rattle.numbers.specs.Root.{rootOf}
 use Rattle.numbers.specs.Small.{half}
 use Rattle.geom.specs.Vec.{f0}
 use Rattle.geom.specs.declared.vec2.Vec2.{Vec2}
-use Rattle.raster.specs.Grid.{float, offset}
+use Rattle.raster.specs.Grid.{offset}
+use Rattle.numbers.specs.Cast.{float}
 use Rattle.raster.specs.declared.grid.Grid.{Grid}
 use Rattle.raster.specs.declared.disk.Rows.{Rows}
 use Rattle.raster.specs.declared.disk.Crescent.{Crescent}

@@ -3,9 +3,9 @@ use Prim.Native.Nat.{ℕ, _+_, _*_, _≤_, _<_}
 use mathlib.Core.Bool.{Bool, false, cond, not, _&&_, _||_}
 use mathlib.Core.List.{List}
 use lib.ListN.{getD}
-use lib.IntN.{pos}
 use lib.Dec.{eqb, ltb, leb}
-use lib.Ieee.{Float, binary64, ofInt, toUnsigned, add, sub, mul, div, lt}
+use lib.Ieee.{Float, binary64, toUnsigned, add, sub, mul, div, lt}
+use Rattle.numbers.specs.Cast.{float}
 use Rattle.numbers.specs.Order.{isFinite}
 use Rattle.numbers.specs.Whole.{ceilOf}
 use Rattle.numbers.specs.Small.{f2, half}
@@ -30,10 +30,6 @@ pub record Sides (g : Grid) : Type 0 where
 pub record Over (g : Grid) (n : ℕ) : Type 0 where
   pub sides : Sides g
   pub long : g .ny * g .nx ≤ n
-
--- a whole number as a float
-abbrev pub float : ℕ → Float
-float n = ofInt binary64 (pos n)
 
 -- the whole cells from lo to hi with the margin on both sides; a side has one more
 unfoldable pub reachOf : Float → Float → Float → Float → ℕ

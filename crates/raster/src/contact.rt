@@ -7,10 +7,9 @@ ghost use Rattle.raster.specs.Grid.{Over};
 ghost use Rattle.raster.specs.Contact.{samplesOf, directionAt, hitsOf, angleOf, engagementOf, Rim, rimmed};
 use super::grid::Grid;
 use super::grid::at;
-use super::grid::float_of;
 use geom::vec2::Vec2;
-
-const TAU: f64 = 6.28318530717958647692528676655900577;
+use numbers::cast::float_of;
+use numbers::circle::TAU;
 
 pub fn samples_of(n: usize) -> usize
     ensures { λ r. ⌜ r ≡ samplesOf n ⌝ }

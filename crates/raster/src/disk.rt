@@ -3,8 +3,8 @@ ghost use mathlib.Core.Path.{_≡_};
 ghost use Prim.Native.Nat.{_-_, min};
 ghost use Rattle.raster.specs.Disk.{rowY, cellAt, firstFrom, colsOf, diskRow, lastRow, rowsOf, leftOf, rightOf, less, crescentRow};
 use super::grid::Grid;
-use super::grid::float_of;
 use geom::vec2::Vec2;
+use numbers::cast::float_of;
 
 // Columns from the first to the second, both in, or none.
 pub enum Span {

@@ -2,8 +2,9 @@
 ghost use mathlib.Core.Path.{_≡_};
 ghost use Prim.Native.Nat.{_<_, _%_, _/_, _^_};
 ghost use lib.ListN.{length, getD};
-ghost use Rattle.raster.specs.Grid.{Sides, Over, refusalOf, spansOf, fitOf, reachOf, gridOf, sizedOf, newGrid, float, numbered, centerOf, cellOf, stockAt};
+ghost use Rattle.raster.specs.Grid.{Sides, Over, refusalOf, spansOf, fitOf, reachOf, gridOf, sizedOf, newGrid, numbered, centerOf, cellOf, stockAt};
 use geom::vec2::Vec2;
+use numbers::cast::float_of;
 
 pub struct Grid {
     // Lower-left corner of cell (0, 0).
@@ -150,13 +151,6 @@ pub fn cell_in(cells: &[u32], i: usize) -> CellNo
     ensures { λ c. ⌜ c .0 ≡ getD (now (cells .entry)) i 0 ⌝ }
 {
     CellNo(cells[i])
-}
-
-// A whole number as a float, rounded as by Rust's `as`.
-pub fn float_of(n: usize) -> f64
-    ensures { λ r. ⌜ r ≡ float n ⌝ }
-{
-    std::num::nearest_u64_to_f64(n as u64)
 }
 
 pub fn center(g: Grid, i: usize, j: usize) -> Vec2

@@ -17,23 +17,23 @@ use Rattle.floats.proofs.ShareLaws.{Normal, normal-of, normal-positive}
 use Rattle.numbers.specs.Circle.{pi, radiansOf}
 use Rattle.numbers.specs.Whole.{ceilOf}
 use Rattle.numbers.specs.Small.{f1, f4}
-use Rattle.setup.specs.Limits.{guardOf, targetOf, samplesOf}
+use Rattle.setup.specs.Limits.{guardOf, targetOf, samplesFor}
 use Rattle.setup.proofs.GuardLaws.{guard-lt, guard-above, guard-fits, target-le}
 
 -- ---- how many samples
 
 module _ (r cell x : Float) (n : ℕ) (X : x ≡ ceilOf (div binary64 (mul binary64 (mul binary64 f4 pi) r) cell)) (N : n ≡ toUnsigned 64 x) where
-  few : (m : ℕ) → m ≡ min (max n 64) 2048 → m ≡ samplesOf r cell
-  unfolding samplesOf
+  few : (m : ℕ) → m ≡ min (max n 64) 2048 → m ≡ samplesFor r cell
+  unfolding samplesFor
   few m e = e ∙ ap (λ (k : ℕ). min (max k 64) 2048) (N ∙ ap (toUnsigned 64) X)
 
-  pub samples-least : n < 64 → 64 ≡ samplesOf r cell
+  pub samples-least : n < 64 → 64 ≡ samplesFor r cell
   samples-least h = few 64 (omega arith)
 
-  pub samples-most : 64 ≤ n → 2048 < n → 2048 ≡ samplesOf r cell
+  pub samples-most : 64 ≤ n → 2048 < n → 2048 ≡ samplesFor r cell
   samples-most h k = few 2048 (omega arith)
 
-  pub samples-same : 64 ≤ n → n ≤ 2048 → n ≡ samplesOf r cell
+  pub samples-same : 64 ≤ n → n ≤ 2048 → n ≡ samplesFor r cell
   samples-same h k = few n (omega arith)
 
 -- ---- the limit of an engagement of 1 to 180 degrees, in radians

@@ -11,13 +11,13 @@ use Rattle.numbers.specs.Small.{f1}
 use Rattle.numbers.proofs.BoundLaws.{bounds-of}
 use Rattle.geom.specs.declared.region.Region.{Region}
 use Rattle.raster.specs.declared.grid.Grid.{Grid}
-use Rattle.setup.specs.Limits.{samplesOf}
+use Rattle.setup.specs.Limits.{samplesFor}
 use Rattle.setup.specs.Made.{setupOf, Measured}
 use Rattle.setup.specs.declared.Setup.{Setup}
 use Rattle.setup.proofs.LimitLaws.{guard-below, target-at-most}
 
-pub samples-few : (r cell : Float) → (64 ≤ samplesOf r cell) × (samplesOf r cell ≤ 2048)
-unfolding samplesOf
+pub samples-few : (r cell : Float) → (64 ≤ samplesFor r cell) × (samplesFor r cell ≤ 2048)
+unfolding samplesFor
 samples-few r cell = (omega arith, omega arith)
 
 module _ (g : Grid) (region : Region) (diameter leave degrees : Float) (down : Bool) where

@@ -26,5 +26,5 @@ unfoldable pub targetOf : Float → Float
 targetOf guard = mul binary64 c85 guard
 
 -- 4 pi r / cell, brought up to a whole number and into 64 to 2,048
-unfoldable pub samplesOf : Float → Float → ℕ
-samplesOf r cell = min (max (toUnsigned 64 (ceilOf (div binary64 (mul binary64 (mul binary64 f4 pi) r) cell))) 64) 2048
+unfoldable pub samplesFor : Float → Float → ℕ
+samplesFor r cell = min (max (toUnsigned 64 (ceilOf (div binary64 (mul binary64 (mul binary64 f4 pi) r) cell))) 64) 2048

@@ -7,7 +7,7 @@ use Rattle.numbers.specs.Circle.{radiansOf}
 use Rattle.numbers.specs.Small.{half, quarter}
 use Rattle.geom.specs.declared.region.Region.{Region}
 use Rattle.raster.specs.declared.grid.Grid.{Grid}
-use Rattle.setup.specs.Limits.{guardOf, targetOf, samplesOf}
+use Rattle.setup.specs.Limits.{guardOf, targetOf, samplesFor}
 use Rattle.setup.specs.declared.Setup.{Setup}
 
 -- the radius that contact is sampled at: r + 0.25 * cell
@@ -32,7 +32,7 @@ setupOf g region diameter leave degrees down =
       bound = boundOf keep;
       target = targetOf guard;
       guard = guard;
-      samples = samplesOf r (g .cell);
+      samples = samplesFor r (g .cell);
       «keep_down» = down;
     }
 

@@ -1,6 +1,4 @@
 -- `bench_lines::line::by_word` meets its contract. Assumes nothing.
-use mathlib.Core.Path.{_∙_}
-use Rattle.bench_lines.proofs.CondLaws.{if-so, if-not}
 use mathlib.Core.Path.{refl}
 use borrow.Author.Tests.{eq-eqb, ne-eqb}
 use Rattle.bench_lines.specs.Line.{wordOf}

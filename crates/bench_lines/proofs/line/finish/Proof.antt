@@ -1,7 +1,6 @@
 -- `bench_lines::line::finish` meets its contract. Assumes nothing.
 use mathlib.Core.Path.{_∙_}
 use Rattle.bench_lines.proofs.CondLaws.{if-so, if-not}
-use mathlib.Core.Path.{refl}
 use Rattle.bench_lines.specs.Line.{lineOf}
 use borrow.Author.Needs.{needs}
 use Rattle.bench_lines.proofs.line.finish.Statement.{statement}

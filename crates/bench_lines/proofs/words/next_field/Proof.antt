@@ -1,7 +1,6 @@
 -- `bench_lines::words::next_field` meets its contract. Assumes nothing.
 use mathlib.Core.Path.{_∙_}
 use Rattle.bench_lines.proofs.CondLaws.{if-so, if-not}
-use mathlib.Core.Path.{refl}
 use borrow.Author.Tests.{lt-ltb, le-ltb}
 use Rattle.bench_lines.specs.Words.{nextField}
 use borrow.Author.Needs.{needs}

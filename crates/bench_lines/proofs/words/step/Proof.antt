@@ -1,7 +1,6 @@
 -- `bench_lines::words::step` meets its contract. Assumes nothing.
 use mathlib.Core.Path.{_∙_}
 use Rattle.bench_lines.proofs.CondLaws.{if-so, if-not}
-use mathlib.Core.Path.{refl}
 use borrow.Author.Tests.{eq-eqb, ne-eqb}
 use Rattle.bench_lines.specs.Words.{stepOf}
 use borrow.Author.Needs.{needs}

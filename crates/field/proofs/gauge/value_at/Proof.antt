@@ -1,7 +1,7 @@
 -- `field::gauge::value_at` meets its contract. Assumes nothing.
 use mathlib.Core.Path.{ap}
 use native.Mathlib.Omega.{arith}
-use Rattle.distance.specs.declared.limits.Bound.{Bound}
+use Rattle.distance.specs.declared.limits.Threshold.{Threshold}
 use Rattle.raster.proofs.GridLaws.{number-below}
 use Rattle.field.proofs.GaugeLaws.{value-far, value-deep, value-sampled}
 use borrow.Author.Needs.{needs}
@@ -21,7 +21,7 @@ shared-slice-read-square : tie.Need-shared-slice-read-square
 shared-slice-read-square c = number-below (c .before .before .before .before .before .before .args .g .setup .grid .nx) _ _ _ _ (c .before .before .before .before .before .before .pre .1 .1 .1 .1 .0) (c .before .before .before .before .before .before .pre .1 .1 .1 .1 .1) (c .before .before .before .before .before .before .pre .1 .1 .0)
 
 beyond-requires : tie.Need-beyond-requires
-beyond-requires c κs = let t = c .before .before .before .before .before .before .before .pre .0 .far in (t .limit, ap (λ (b : Bound). b .strict) (t .is))
+beyond-requires c κs = let t = c .before .before .before .before .before .before .before .pre .0 .far in (t .limit, ap (λ (b : Threshold). b .strict) (t .is))
 
 returns : tie.Need-returns
 returns c = value-far _ (c .before .before .before .before .before .before .before .before .before .pre .0) _ _ _ _ _ (c .before .beyond .ensures) (c .if1 .taken)

@@ -2,8 +2,6 @@
 use mathlib.Core.Path.{ap}
 use lib.ListN.{getD}
 use lib.Ieee.{nan}
-use Rattle.links.specs.declared.NodeNo.{NodeNo}
-use Rattle.links.specs.declared.heap.Entry.{Entry}
 use Rattle.links.specs.Heap.{entryAt}
 use Rattle.links.specs.Search.{entry}
 use borrow.Author.Needs.{needs}

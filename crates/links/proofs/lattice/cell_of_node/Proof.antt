@@ -1,5 +1,5 @@
 -- `links::lattice::cell_of_node` meets its contract. Assumes nothing.
-use mathlib.Core.Path.{_≡_, sym, ap, _∙_, subst}
+use mathlib.Core.Path.{sym, ap, _∙_, subst}
 use Prim.Native.Nat.{ℕ, _*_, _%_, _/_, _<_}
 use Rattle.links.specs.Lattice.{along}
 use Rattle.links.proofs.LatticeLaws.{cell-low, gx-pos, column-in, row-in, cell-is}

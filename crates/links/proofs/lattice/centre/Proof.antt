@@ -1,5 +1,5 @@
 -- `links::lattice::centre` meets its contract. Assumes nothing.
-use mathlib.Core.Path.{_≡_, sym, ap, _∙_, subst}
+use mathlib.Core.Path.{sym, ap, _∙_, subst}
 use Prim.Native.Nat.{ℕ, _*_, _%_, _/_, _<_}
 use Rattle.links.specs.Lattice.{centreAt, centreOf}
 use Rattle.links.proofs.LatticeLaws.{gx-pos, column-in, row-in}

@@ -1,7 +1,5 @@
 -- `links::search::improve` meets its contract. Assumes nothing.
-use mathlib.Core.Path.{ap, _∙_}
 use native.Mathlib.Omega.{arith}
-use lib.ListN.{length, length-set}
 use Rattle.links.proofs.SearchLaws.{improve-ready, improve-is}
 use borrow.Author.Needs.{needs}
 use Rattle.links.proofs.search.improve.Statement.{statement}

@@ -5,7 +5,6 @@ use native.Mathlib.Omega.{arith}
 use lib.ListN.{length, length-set}
 use borrow.Author.Needs.{needs}
 use Rattle.loops.proofs.LoopLaws.{Going, going-none, going-more, going-end}
-use Rattle.geom.specs.Points.{putPoint}
 use Rattle.raster.specs.Contact.{putRim, rimmed}
 use Rattle.raster.proofs.ContactLaws.{rim-long, rim-is, put-is}
 use Rattle.raster.proofs.contact.fill_rim.Statement.{statement}
