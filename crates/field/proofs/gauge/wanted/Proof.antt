@@ -11,11 +11,11 @@ shared-slice-read-if1 c = search needs
 returns : tie.Need-returns
 returns c = wanted-all _ (c .before .before .before .before .before .pre .0) _ _ _ (eq-eqb _ _ (c .before .if1 .taken)) (c .if2 .taken)
 
-mul-within : tie.Need-mul-within
-mul-within c = search needs
+mul-is-within : tie.Need-mul-is-within
+mul-is-within c = search needs
 
-shared-slice-read-within : tie.Need-shared-slice-read-within
-shared-slice-read-within c = search needs
+shared-slice-read-is-within : tie.Need-shared-slice-read-is-within
+shared-slice-read-is-within c = search needs
 
 is-within-requires : tie.Need-is-within-requires
 is-within-requires c κs = search needs
@@ -32,8 +32,8 @@ wanted-spec =
     (tie.spec
     shared-slice-read-if1
     returns
-    mul-within
-    shared-slice-read-within
+    mul-is-within
+    shared-slice-read-is-within
     is-within-requires
     returns-2
     returns-3)
