@@ -6,7 +6,7 @@ ghost use lib.ListN.{length};
 ghost use Rattle.loops.specs.Frame.{Only};
 ghost use Rattle.raster.specs.Grid.{Sides};
 ghost use Rattle.raster.specs.Log.{undone, redone, Logged};
-ghost use Rattle.setup.specs.Layout.{most, putRun, allowedIn, dirtyIn, logIn, mapIn, costFrom, guideFrom, pathEnd};
+ghost use Rattle.setup.specs.Layout.{most, putRun, allowedIn, dirtyIn, logIn, mapIn, costFrom, guideFrom, pathEnd, segmentsFrom};
 ghost use Rattle.setup.specs.Place.{cellsOf};
 ghost use Rattle.links.specs.Path.{wallIn, Fitted};
 ghost use Rattle.links.specs.Link.{wayBy};
@@ -138,7 +138,7 @@ fn go_and_keep(
     requires { ⌜ 1 ≤ n ⌝ }
     ensures { λ r. ⌜ leftIn (cellsOf s) (now (b .exit)) (logIn (cellsOf s) (now (u .exit))) (now (rows .exit)) (now (triples .exit)) r ≡ wentOf s (wallIn s (now (w .entry))) (now (vs .entry)) (now (lens .entry)) (allowedIn (cellsOf s) (now (b .entry))) t removed n (mapIn (cellsOf s) (now (b .entry))) (dirtyIn (cellsOf s) (now (b .entry))) (logIn (cellsOf s) (now (u .entry))) (now (rows .entry)) (now (triples .entry)) .left ⌝ }
     ensures { λ _. ⌜ Settled (cellsOf s) (now (b .entry)) (now (b .exit)) ⌝ }
-    ensures { λ _. ⌜ Only 0 (15 * cellsOf s) (now (u .entry)) (now (u .exit)) ⌝ }
+    ensures { λ _. ⌜ Only 0 (segmentsFrom (cellsOf s)) (now (u .entry)) (now (u .exit)) ⌝ }
     ensures { λ _. ⌜ Only (costFrom (cellsOf s)) (pathEnd (cellsOf s)) (now (w .entry)) (now (w .exit)) ⌝ }
 {
     let size = s.grid.ny * s.grid.nx;

@@ -1,10 +1,10 @@
 // The way to a pass.
 ghost use mathlib.Core.Path.{_≡_};
-ghost use Prim.Native.Nat.{_*_, _≤_};
+ghost use Prim.Native.Nat.{_≤_};
 ghost use lib.ListN.{length};
 ghost use Rattle.loops.specs.Frame.{Only};
 ghost use Rattle.raster.specs.Grid.{Over};
-ghost use Rattle.setup.specs.Layout.{costFrom, pathEnd};
+ghost use Rattle.setup.specs.Layout.{costFrom, pathEnd, segmentsFrom};
 ghost use Rattle.setup.specs.Place.{cellsOf};
 ghost use Rattle.links.specs.Path.{wallIn, Fitted};
 ghost use Rattle.links.specs.Link.{linkedIn};
@@ -30,9 +30,9 @@ pub fn way_to(
 ) -> Route
     requires { ⌜ Fitted s (now vs) (now lens) (now map) (now w) ⌝ }
     requires { ⌜ Over (s .grid) (length (now allowed)) ⌝ }
-    requires { ⌜ 15 * cellsOf s ≤ length (now u) ⌝ }
+    requires { ⌜ segmentsFrom (cellsOf s) ≤ length (now u) ⌝ }
     ensures { λ r. ⌜ linkedIn s r (now (w .exit)) ≡ routeOf s (wallIn s (now (w .entry))) (now (vs .entry)) (now (lens .entry)) (now (map .entry)) (now (allowed .entry)) pos to ⌝ }
-    ensures { λ _. ⌜ Only 0 (15 * cellsOf s) (now (u .entry)) (now (u .exit)) ⌝ }
+    ensures { λ _. ⌜ Only 0 (segmentsFrom (cellsOf s)) (now (u .entry)) (now (u .exit)) ⌝ }
     ensures { λ _. ⌜ Only (costFrom (cellsOf s)) (pathEnd (cellsOf s)) (now (w .entry)) (now (w .exit)) ⌝ }
 {
     let Place::At(p) = pos else {

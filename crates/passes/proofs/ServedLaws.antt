@@ -62,7 +62,7 @@ module _ (s : Setup) (allowed : Vec2 → Bool) (m : List ℕ) where
   outward-served : (g left : Vec2) (step most shift : Float) (work : ℕ) → Served (outward s allowed m g left step most shift work .found)
   unfolding outward
   outward-served g left step most shift work =
-      sought-served _ (loop-keeps (turn (look s allowed m g left step most)) 0 Sought 8192 (λ i r b c h. look-served g left step most i r h) (on (sk shift work)) tt)
+      sought-served _ (loop-keeps (turn (look s allowed m g left step most)) 0 Sought 8193 (λ i r b c h. look-served g left step most i r h) (on (sk shift work)) tt)
 
   or-served : (g left : Vec2) (step most shift : Float) (f : Shift) (w : ℕ) → Served f → Served (orOutward s allowed m g left step most shift f w .found)
   unfolding orOutward

@@ -96,10 +96,10 @@ module _ (s : Setup) (allowed : Vec2 → Bool) (m : List ℕ) where
         look-on h = rw (not-false (le sh (add binary64 most tiny)) c, ← R, h)
 
     module _ (shift : Float) (work : ℕ) where
-      pub outward-out : (r : Search) → loop (turn (look s allowed m g left step most)) 0 8192 (on (sk shift work)) ≡ out r → r ≡ outward s allowed m g left step most shift work
+      pub outward-out : (r : Search) → loop (turn (look s allowed m g left step most)) 0 8193 (on (sk shift work)) ≡ out r → r ≡ outward s allowed m g left step most shift work
       unfolding outward sought
       outward-out r e = ap sought (sym e)
 
-      pub outward-on : (sh : Float) (w : ℕ) → on (sk sh w) ≡ loop (turn (look s allowed m g left step most)) 0 8192 (on (sk shift work)) → sr Nothing w ≡ outward s allowed m g left step most shift work
+      pub outward-on : (sh : Float) (w : ℕ) → on (sk sh w) ≡ loop (turn (look s allowed m g left step most)) 0 8193 (on (sk shift work)) → sr Nothing w ≡ outward s allowed m g left step most shift work
       unfolding outward sought
       outward-on sh w e = ap sought e

@@ -73,9 +73,9 @@ module _ (s : Setup) (allowed : Vec2 → Bool) (m : List ℕ) where
       let r = tryOf g left (k .sh) (s .guard) (k .work) in
       cond (le (k .sh) (add binary64 most tiny)) (grown step (k .sh) (r .found) (r .work)) (out (sr Nothing (k .work)))
 
-  -- the shift grows at most 8,192 times
+  -- the shift grows at most 8,192 times: 8,193 tries
   unfoldable pub outward : Vec2 → Vec2 → Float → Float → Float → ℕ → Search
-  outward g left step most shift work = sought (loop (turn (look g left step most)) 0 8192 (on (sk shift work)))
+  outward g left step most shift work = sought (loop (turn (look g left step most)) 0 8193 (on (sk shift work)))
 
   unfoldable pub orOutward : Vec2 → Vec2 → Float → Float → Float → Shift → ℕ → Search
   orOutward g left step most shift Nothing w = outward g left step most shift w

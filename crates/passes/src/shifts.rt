@@ -170,9 +170,10 @@ pub fn find_shift(
     let guard = s.guard;
     let mut w = eased.work;
     let mut sh = shift;
-    let mut grown = 0u32;
+    let mut tries = 0u32;
     let found = loop {
-        if 8192 <= grown {
+        // The shift has grown 8,192 times.
+        if 8193 <= tries {
             break Shift::Nothing;
         }
         if !(sh <= most + 1e-12) {
@@ -185,7 +186,7 @@ pub fn find_shift(
             break Shift::At(q, e, x);
         }
         sh = sh + step;
-        grown += 1;
+        tries += 1;
     };
     Search { found, work: w }
 }

@@ -11,10 +11,10 @@ use Rattle.passes.proofs.shifts.find_shift.Statement.{statement}
 use Rattle.passes.proofs.shifts.find_shift.Tie as tie
 
 abbrev Inv-loop : tie.InvT-loop
-Inv-loop s wall vs lens rim map g left step most shift work guard w₀ sh₀ grown₀ w sh grown = Going (turn (look s (allowedAt s wall vs lens) map g left step most)) 0 8192 (on (sk shift w₀)) (on (sk sh w)) grown
+Inv-loop s wall vs lens rim map g left step most shift work guard w₀ sh₀ tries₀ w sh tries = Going (turn (look s (allowedAt s wall vs lens) map g left step most)) 0 8193 (on (sk shift w₀)) (on (sk sh w)) tries
 
 abbrev μ-loop : tie.MeasureT-loop
-μ-loop s wall vs lens rim map g left step most shift work guard w₀ sh₀ grown₀ w sh grown = 8192 - grown
+μ-loop s wall vs lens rim map g left step most shift work guard w₀ sh₀ tries₀ w sh tries = 8193 - tries
 
 ease-requires : tie.Need-ease-requires Inv-loop μ-loop
 ease-requires c κs = search needs
@@ -40,8 +40,8 @@ enum-known-f c = c .match2 .keys1
 enum-told-2 : tie.Need-enum-told-2 Inv-loop μ-loop
 enum-told-2 c = c .match2 .keys2
 
-add-grown : tie.Need-add-grown Inv-loop μ-loop
-add-grown c = omega arith
+add-tries : tie.Need-add-tries Inv-loop μ-loop
+add-tries c = omega arith
 
 loop-less : tie.Need-loop-less Inv-loop μ-loop
 loop-less c = omega arith
@@ -84,7 +84,7 @@ find-shift-spec =
     try-shift-requires
     enum-known-f
     enum-told-2
-    add-grown
+    add-tries
     loop-less
     loop-again
     returns-2
