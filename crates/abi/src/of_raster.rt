@@ -39,12 +39,15 @@ pub extern "C" fn raster_new(
     let lo = Vec2 { x: lx, y: ly };
     let hi = Vec2 { x: hx, y: hy };
     let r = raster::grid::new(lo, hi, cell, margin);
-    let Raster::Of(g) = r else {
-        return raster::grid::refusal_of(r) as u64;
-    };
-    let corner = g.origin;
-    super::of_geom::put(corner, out);
-    sides(g.nx, g.ny)
+    match r {
+        Raster::Unfit => raster::grid::refusal_of(r) as u64,
+        Raster::TooLarge => raster::grid::refusal_of(r) as u64,
+        Raster::Of(g) => {
+            let corner = g.origin;
+            super::of_geom::put(corner, out);
+            sides(g.nx, g.ny)
+        }
+    }
 }
 
 fn sides(nx: usize, ny: usize) -> u64

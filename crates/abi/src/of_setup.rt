@@ -35,7 +35,7 @@ pub extern "C" fn setup_target_of(guard: f64) -> f64
 
 #[no_mangle]
 pub extern "C" fn setup_samples_of(r: f64, cell: f64) -> usize
-    ensures { λ n. ⌜ n ≡ Limits.samplesOf r cell ⌝ }
+    ensures { λ n. ⌜ n ≡ Limits.samplesFor r cell ⌝ }
 {
     setup::limits::samples_of(r, cell)
 }

@@ -7,10 +7,10 @@ ghost use Rattle.links.specs.Node.{nodeIn};
 ghost use Rattle.links.specs.Search.{noNode};
 
 pub mod heap;
-pub mod lattice;
+mod lattice;
 pub mod link;
-pub mod path;
-pub mod search;
+mod path;
+mod search;
 pub mod straight;
 
 // The number of a node of the search's lattice.

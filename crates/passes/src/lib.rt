@@ -2,8 +2,8 @@
 // out, the shift at each sample of the guide, the pass tried along it against the stock map, and whether
 // that was worth it.
 pub mod attempt;
-pub mod guide;
+mod guide;
 pub mod shifts;
 pub mod start;
 pub mod trial;
-pub mod worth;
+mod worth;

@@ -1,0 +1,3 @@
+pub mod FloatLaws
+pub mod MapLaws
+pub mod AnswerLaws

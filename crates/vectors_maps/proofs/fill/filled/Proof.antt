@@ -1,0 +1,49 @@
+-- `vectors_maps::fill::filled` meets its contract. Assumes nothing.
+use mathlib.Core.Path.{refl, ap, _∙_}
+use mathlib.Core.List.{List, [], _∷_}
+use lib.Ieee.{Float}
+use Rattle.raster.specs.Fill.{fillRegion}
+use Rattle.vectors_maps.specs.Answers.{threeLoops}
+use Rattle.vectors_maps.proofs.AnswerLaws.{held-three, few-vertices}
+use borrow.Author.Needs.{needs}
+use Rattle.vectors_maps.proofs.fill.filled.Statement.{statement}
+use Rattle.vectors_maps.proofs.fill.filled.Tie as tie
+
+slice-aggregate-vertices : tie.Need-slice-aggregate-vertices
+slice-aggregate-vertices c = search needs
+
+vertices-requires : tie.Need-vertices-requires
+vertices-requires c κs = search needs
+
+slice-aggregate-fill-region : tie.Need-slice-aggregate-fill-region
+slice-aggregate-fill-region c = search needs
+
+slice-aggregate-fill-region-2 : tie.Need-slice-aggregate-fill-region-2
+slice-aggregate-fill-region-2 c = search needs
+
+slice-aggregate-fill-region-3 : tie.Need-slice-aggregate-fill-region-3
+slice-aggregate-fill-region-3 c = search needs
+
+fill-region-requires : tie.Need-fill-region-requires
+fill-region-requires c κs = (c .before .before .before .before .before .before .before .before .pre .0, (held-three _ _ _ _ _ _ (c .before .before .before .before .before .before .before .before .pre .1) (c .before .before .before .before .before .vertices .ensures) refl, few-vertices _ _ _ (c .before .before .before .before .before .before .before .before .pre .1)))
+
+same-length : tie.Need-same-length
+same-length c = search needs
+
+returns : tie.Need-returns
+returns c =
+    let a = c .before .before .before .before .before .before .before .before .before .before .before .before .args in
+    c .before .before .before .fill-region .ensures ∙ ap (λ (vs : List Float). fillRegion (a .g) vs (a .a ∷ a .b ∷ a .c ∷ []) threeLoops (a .map .now)) (c .before .before .before .before .before .before .before .before .before .vertices .ensures)
+
+pub filled-spec : {M : Type 1} → statement M
+filled-spec =
+    tie.close
+    (tie.spec
+    slice-aggregate-vertices
+    vertices-requires
+    slice-aggregate-fill-region
+    slice-aggregate-fill-region-2
+    slice-aggregate-fill-region-3
+    fill-region-requires
+    same-length
+    returns)

@@ -1,0 +1,37 @@
+// Contact: the tool's place, its radius and how many samples; then the angle.
+ghost use mathlib.Core.Path.{_≡_};
+ghost use Rattle.vectors_maps.specs.Maps.{Small};
+ghost use Rattle.vectors_maps.specs.Answers.{Contact};
+use super::Judged;
+use super::float::float;
+use super::float::pattern;
+use super::maps::grid;
+use super::maps::make;
+use super::maps::point;
+use raster::contact::engagement;
+use raster::contact::fill_rim;
+use raster::contact::samples_of;
+
+pub fn judged(s: &[u64; 64], last: usize, nx: usize, ny: usize) -> Judged
+    requires { ⌜ Small nx ny ⌝ }
+    ensures { λ r. ⌜ (r ≡ Judged.Agrees → Contact (now (s .entry)) nx ny) ⌝ }
+{
+    let asked = s[11];
+    if last != 12 {
+        return Judged::Bad;
+    }
+    if 64 < asked {
+        return Judged::Bad;
+    }
+    let samples = asked as usize;
+    let mut map = [0u8; 1024];
+    let mut rim = [0.0f64; 128];
+    make(s[1], s[2], ny * nx, &mut map);
+    fill_rim(&mut rim, samples_of(samples));
+    let g = grid(s, nx, ny);
+    let angle = engagement(g, &map, point(s, 8), float(s[10]), &rim, samples);
+    if pattern(angle) == s[12] {
+        return Judged::Agrees;
+    }
+    Judged::Differs
+}
