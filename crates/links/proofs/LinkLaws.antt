@@ -48,7 +48,7 @@ use Rattle.links.proofs.ShortenLaws.{part-at, fitted-only, path-long}
 
 -- ---- the squares, then the search
 
-module _ (l : Lattice) (L : Laid l) (m : List ℕ) (M : cells l ≤ length m) (u : List ℕ) (A : 15 * cells l ≤ length u) (b : ℕ) (B : b ≡ 5 * cells l) where
+module _ (l : Lattice) (L : Laid l) (m : List ℕ) (M : cells l ≤ length m) (u : List ℕ) (A : 15 * cells l ≤ length u) (k : ℕ) (K₁ : k ≡ cells l) (b : ℕ) (B : b ≡ 5 * k) where
   sides : least.MapSides (l .grid .nx) (l .grid .ny)
   sides = let s = L .sides in record { column = s .wide; wide = s .columns; row = s .high; high = s .rows }
 
@@ -107,9 +107,9 @@ module _ (s : Setup) (vs : List Float) (lens m : List ℕ) (w : List Float) (F :
   nodes-in = omega (arith, nodes-few l L, same-cells)
 
   -- where the nodes before and the path begin
-  module _ (n : ℕ) (N : n ≡ nodes l) (b : ℕ) (B : b ≡ 5 * cells l) (a : ℕ) (P : a ≡ 20 * size) where
+  module _ (n : ℕ) (N : n ≡ nodes l) (k₁ : ℕ) (K₁ : k₁ ≡ cells l) (b : ℕ) (B : b ≡ 5 * k₁) (k₂ : ℕ) (K₂ : k₂ ≡ size) (a : ℕ) (P : a ≡ 20 * k₂) where
     abbrev e : ℕ
-    e = a + 3 * size
+    e = a + 3 * k₂
 
     path : Fits a e w
     path = record { start = omega arith; end = omega (arith, F .long) }
@@ -119,7 +119,7 @@ module _ (s : Setup) (vs : List Float) (lens m : List ℕ) (w : List Float) (F :
     unfolding within
     before-part =
         let f = nodes-few l L in
-        ap (λ (k : ℕ). take (k + n - k) (drop k u)) B
+        ap (λ (k : ℕ). take (k + n - k) (drop k u)) (let z : b ≡ 5 * cells l = omega arith in z)
         ∙ ap (λ (k : ℕ). take k (drop (5 * cells l) u)) (let z : 5 * cells l + n - 5 * cells l ≡ nodes l = omega arith in z)
         ∙ sym (take-take (nodes l) (15 * cells l - 5 * cells l) (drop (5 * cells l) u) (let z : nodes l ≤ 15 * cells l - 5 * cells l = omega arith in z))
 
@@ -157,7 +157,7 @@ module _ (s : Setup) (vs : List Float) (lens m : List ℕ) (w : List Float) (F :
       )
         where
           there : Unit {0} → pathIn s w₁ ≡ r
-          there _ = sym (part-at a e (20 * size) (23 * size) w₁ P (omega arith)) ∙ back-there a e w path r R
+          there _ = sym (part-at a e (20 * size) (23 * size) w₁ (omega arith) (omega arith)) ∙ back-there a e w path r R
 
 -- ---- what a change between the wall distances and the rim leaves of both
 
@@ -206,7 +206,7 @@ module _ (l : Lattice) (allowed squares : List ℕ) where
 
 module _ (s : Setup) (vs : List Float) (lens m allowed : List ℕ) (w : List Float) (F : Fitted s vs lens m w) (l : Lattice) (L : Laid l) (G : l .grid ≡ s .grid)
     (H : Over (s .grid) (length allowed)) (u : List ℕ) (A : 15 * (s .grid .ny * s .grid .nx) ≤ length u)
-    (a : ℕ) (C : a ≡ 10 * (s .grid .ny * s .grid .nx)) (e : ℕ) (P : e ≡ 20 * (s .grid .ny * s .grid .nx)) where
+    (k₀ : ℕ) (K₀ : k₀ ≡ s .grid .ny * s .grid .nx) (a : ℕ) (C : a ≡ 10 * k₀) (e : ℕ) (P : e ≡ 20 * k₀) where
   abbrev n : ℕ
   n = s .grid .ny * s .grid .nx
 

@@ -17,7 +17,7 @@ use Rattle.loops.proofs.LoopLaws.{loop-keeps, Going, going-none, going-on, goin
 use Rattle.loops.specs.Regions.{Fits, within}
 use Rattle.loops.proofs.RegionLaws.{region-long}
 use Rattle.loops.specs.Frame.{Only}
-use Rattle.loops.proofs.FrameLaws.{back-there, back-only, only-more}
+use Rattle.loops.proofs.FrameLaws.{back-there, back-only, only-more, only-wider}
 use Rattle.geom.specs.Vec.{f0, distanceOf}
 use Rattle.geom.specs.declared.vec2.Vec2.{Vec2}
 use Rattle.links.specs.declared.NodeNo.{NodeNo}
@@ -33,7 +33,7 @@ use Rattle.links.specs.Search.{Search, st, top, noNode, entry, started, 
 use Rattle.links.specs.declared.search.Sought.{Sought}
 use Rattle.links.proofs.LatticeLaws.{nodes-few, nodes-most, nodes-pos, beside-node}
 use Rattle.links.proofs.OpenLaws.{one-fails, count-insert, first-fails}
-use Rattle.links.proofs.VisitLaws.{squares-same, words-part, visited-none, visited-more, words-back, visited-back}
+use Rattle.links.proofs.VisitLaws.{squares-same, words-lent, words-put, words-part, visited-none, visited-more, words-back, visited-back}
 use Rattle.links.proofs.SearchLaws.{st-eq}
 
 -- ---- the beginning
@@ -192,30 +192,37 @@ module _ (l : Lattice) (allowed : List ℕ) (u : List ℕ) (costs : List Float) 
     record { only = visited-none l m u costs S .only; costs-long = refl; room = tt },
   )
 
-  pub next-fits : Laid l → (n : ℕ) → n ≡ nodes l → (m ≡ 0 → ⊥) → Ready n m (wordsIn l u) costs × ((0 < m) × (n ≤ 1048576))
-  next-fits L n N z = subst (λ (k : ℕ). Ready k m (wordsIn l u) costs × ((0 < m) × (k ≤ 1048576))) (sym N) (S .ready, (some m z, nodes-most l L))
+  pub next-fits : Laid l → (n : ℕ) → n ≡ nodes l → (m ≡ 0 → ⊥) → (w : List ℕ) → w ≡ wordsIn l u → Ready n m w costs × ((0 < m) × (n ≤ 1048576))
+  next-fits L n N z w W =
+      subst (λ (k : ℕ). Ready k m w costs × ((0 < m) × (k ≤ 1048576))) (sym N) (subst (λ (x : List ℕ). Ready (nodes l) m x costs) (sym W) (S .ready), (some m z, nodes-most l L))
     where
       some : (k : ℕ) → (k ≡ 0 → ⊥) → 0 < k
       some zero z = absurd (z refl)
       some (suc k) z = omega arith
 
   -- an entry e is taken
-  module _ (n : ℕ) (N : n ≡ nodes l) (e : Entry) (r : List ℕ) (c′ : List Float)
-      (E : searchIn n m (wordsIn l u) costs ≡ reopened e (searchIn n (m - 1) r c′)) (G : Grown n (m - 1) (wordsIn l u) costs r c′) where
+  module _ (k₀ : ℕ) (K₀ : k₀ ≡ cells l) (from : ℕ) (X₀ : from ≡ 5 * k₀) (to : ℕ) (Y₀ : to ≡ 15 * k₀) (n : ℕ) (N : n ≡ nodes l) (e : Entry) (r : List ℕ) (c′ : List Float)
+      (E₀ : searchIn n m (take (to - from) (drop from u)) costs ≡ reopened e (searchIn n (m - 1) r c′)) (G : Grown n (m - 1) (take (to - from) (drop from u)) costs r c′) where
     abbrev u′ : List ℕ
-    u′ = putMid (5 * cells l) (15 * cells l - 5 * cells l) u r
+    u′ = putMid from (to - from) u r
+
+    put-is : u′ ≡ putMid (5 * cells l) (15 * cells l - 5 * cells l) u r
+    put-is = words-put l k₀ K₀ from X₀ to Y₀ u r
+
+    E : searchIn n m (wordsIn l u) costs ≡ reopened e (searchIn n (m - 1) r c′)
+    E = subst (λ (w : List ℕ). searchIn n m w costs ≡ reopened e (searchIn n (m - 1) r c′)) (words-lent l k₀ K₀ from X₀ to Y₀ u) E₀
 
     g : Grown (nodes l) (m - 1) (wordsIn l u) costs r c′
-    g = subst (λ (k : ℕ). Grown k (m - 1) (wordsIn l u) costs r c′) N G
+    g = subst (λ (k : ℕ). Grown k (m - 1) (wordsIn l u) costs r c′) N (subst (λ (w : List ℕ). Grown n (m - 1) w costs r c′) (words-lent l k₀ K₀ from X₀ to Y₀ u) G)
 
     back : wordsIn l u′ ≡ r
-    back = words-back l m u costs S (m - 1) r c′ g
+    back = ap (wordsIn l) put-is ∙ words-back l m u costs S (m - 1) r c′ g
 
     took : searchIn (nodes l) m (wordsIn l u) costs ≡ reopened e (searchIn (nodes l) (m - 1) (wordsIn l u′) c′)
     took = subst (λ (k : ℕ). searchIn k m (wordsIn l u) costs ≡ reopened e (searchIn k (m - 1) r c′)) N E ∙ ap (λ (w : List ℕ). reopened e (searchIn (nodes l) (m - 1) w c′)) (sym back)
 
     seen : Visited l (m - 1) u costs u′ c′
-    seen = visited-back l m u costs S (m - 1) r c′ g
+    seen = subst (λ (x : List ℕ). Visited l (m - 1) u costs x c′) (sym put-is) (visited-back l m u costs S (m - 1) r c′ g)
 
     pub step-goal : e .node .0 ≡ l .goal .0
         → (turnIn l (Out (record { found = true; expanded = i })) u′ c′ ≡ seekStep l allowed (squaresIn l u) i (searchIn (nodes l) m (wordsIn l u) costs))
@@ -315,25 +322,27 @@ module _ (l : Lattice) (allowed : List ℕ) (u₀ : List ℕ) (costs₀ : List F
 
 -- ---- from the beginning
 
-module _ (l : Lattice) (L : Laid l) (u : List ℕ) (costs : List Float) (A : 15 * cells l ≤ length u) (B : 10 * cells l ≤ length costs) where
+module _ (l : Lattice) (L : Laid l) (u : List ℕ) (costs : List Float) (A : 15 * cells l ≤ length u) (B : 10 * cells l ≤ length costs)
+    (n : ℕ) (N : n ≡ cells l) (from : ℕ) (X₀ : from ≡ 5 * n) (to : ℕ) (Y₀ : to ≡ 15 * n) where
   part : Fits (5 * cells l) (15 * cells l) u
   part = record { start = omega arith; end = A }
 
-  pub seek-asks : Laid l × ((10 * nodes l ≤ length (wordsIn l u)) × (10 * nodes l ≤ length costs))
-  unfolding within
-  seek-asks = let z = region-long (5 * cells l) (15 * cells l) u part in (L, (omega (arith, z, nodes-few l L), omega (arith, B, nodes-few l L)))
+  lent : Fits from to u
+  lent = record { start = omega arith; end = omega arith }
 
-  module _ (r : List ℕ) (c′ : List Float) (E : searchIn (nodes l) 1 r c′ ≡ started l) (G : Grown (nodes l) 1 (wordsIn l u) costs r c′) where
+  pub seek-asks : Laid l × ((10 * nodes l ≤ length (take (to - from) (drop from u))) × (10 * nodes l ≤ length costs))
+  seek-asks = let z = region-long from to u lent in (L, (omega (arith, z, nodes-few l L), omega (arith, B, nodes-few l L)))
+
+  module _ (r : List ℕ) (c′ : List Float) (E : searchIn (nodes l) 1 r c′ ≡ started l) (G : Grown (nodes l) 1 (take (to - from) (drop from u)) costs r c′) where
     abbrev u₁ : List ℕ
-    u₁ = putMid (5 * cells l) (15 * cells l - 5 * cells l) u r
+    u₁ = putMid from (to - from) u r
 
     first : Only (5 * cells l) (15 * cells l) u u₁
-    unfolding within
-    first = back-only (5 * cells l) (15 * cells l) u part r (G .words-long)
+    first = only-wider from to u u₁ lent (back-only from to u lent r (G .words-long)) (5 * cells l) (15 * cells l) (omega arith) (omega arith) A
 
     words-are : wordsIn l u₁ ≡ r
     unfolding within
-    words-are = back-there (5 * cells l) (15 * cells l) u part r (G .words-long)
+    words-are = sym (words-lent l n N from X₀ to Y₀ u₁) ∙ back-there from to u lent r (G .words-long)
 
     pub run-asks : Searching l 1 u₁ c′ × (searchIn (nodes l) 1 (wordsIn l u₁) c′ ≡ started l)
     run-asks = (

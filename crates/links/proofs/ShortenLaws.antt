@@ -147,17 +147,17 @@ unfolding within
 part-at a e b f w p q = ap (λ (z : ℕ). take (z - a) (drop a w)) q ∙ ap (λ (z : ℕ). take (f - z) (drop z w)) p
 
 -- the rim's part, as it is lent
-pub rim-at : (s : Setup) (w : List Float) (a : ℕ) → a ≡ 32 * (s .grid .ny * s .grid .nx) → (e : ℕ) → e ≡ 32 * (s .grid .ny * s .grid .nx) + 4096
+pub rim-at : (s : Setup) (w : List Float) (n : ℕ) → n ≡ s .grid .ny * s .grid .nx → (a : ℕ) → a ≡ 32 * n → (e : ℕ) → e ≡ 32 * n + 4096
     → Rim (samplesOf (s .samples)) (within (32 * (s .grid .ny * s .grid .nx)) (32 * (s .grid .ny * s .grid .nx) + 4096) w) → Rim (samplesOf (s .samples)) (take (e - a) (drop a w))
-rim-at s w a p e q R = subst (Rim (samplesOf (s .samples))) (sym (part-at a e (32 * (s .grid .ny * s .grid .nx)) (32 * (s .grid .ny * s .grid .nx) + 4096) w p q)) R
+rim-at s w n N a p e q R = subst (Rim (samplesOf (s .samples))) (sym (part-at a e (32 * (s .grid .ny * s .grid .nx)) (32 * (s .grid .ny * s .grid .nx) + 4096) w (omega arith) (omega arith))) R
 
-module _ (s : Setup) (w : List Float) (a : ℕ) (P : a ≡ 20 * (s .grid .ny * s .grid .nx)) where
+module _ (s : Setup) (w : List Float) (size : ℕ) (N : size ≡ s .grid .ny * s .grid .nx) (a : ℕ) (P : a ≡ 20 * size) where
   abbrev e : ℕ
-  e = a + 3 * (s .grid .ny * s .grid .nx)
+  e = a + 3 * size
 
   -- the path's part, as it is lent
   pub path-at : take (e - a) (drop a w) ≡ pathIn s w
-  path-at = part-at a e (20 * (s .grid .ny * s .grid .nx)) (23 * (s .grid .ny * s .grid .nx)) w P (omega arith)
+  path-at = part-at a e (20 * (s .grid .ny * s .grid .nx)) (23 * (s .grid .ny * s .grid .nx)) w (omega arith) (omega arith)
 
   -- it comes back as r
   pub keep-is : (k : ℕ) (p : Vec2) → 32 * (s .grid .ny * s .grid .nx) ≤ length w → (r : List Float) → r ≡ putPoint k p (take (e - a) (drop a w))
@@ -167,7 +167,7 @@ module _ (s : Setup) (w : List Float) (a : ℕ) (P : a ≡ 20 * (s .grid .ny * s
       let n = s .grid .ny * s .grid .nx in
       let f : Fits a e w = record { start = omega arith; end = omega arith } in
       let l = ap length R ∙ put-length k p (take (e - a) (drop a w)) in (
-        sym (part-at a e (20 * n) (23 * n) (putMid a (e - a) w r) P (omega arith)) ∙ back-there a e w f r l ∙ R ∙ ap (putPoint k p) path-at,
+        sym (part-at a e (20 * n) (23 * n) (putMid a (e - a) w r) (omega arith) (omega arith)) ∙ back-there a e w f r l ∙ R ∙ ap (putPoint k p) path-at,
         only-wider a e w _ f (back-only a e w f r l) (20 * n) (23 * n) (omega arith) (omega arith) (omega arith),
       )
 

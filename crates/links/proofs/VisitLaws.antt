@@ -4,7 +4,7 @@ use mathlib.Core.Bool.{Bool, true, false}
 use mathlib.Core.List.{List}
 use Prim.Native.Nat.{ℕ, _+_, _-_, _*_, _≤_, _<_}
 use native.Mathlib.Omega.{arith}
-use lib.ListN.{length}
+use lib.ListN.{length, take, drop}
 use lib.Ieee.{Float}
 use borrow.Author.Tests.{eq-eqb, ne-eqb}
 use borrow.Rule.Slice.PartMut.{putMid}
@@ -35,6 +35,25 @@ module _ (l : Lattice) (allowed squares : List ℕ) (t : NodeNo) where
 -- the squares are as they were
 pub squares-same : (l : Lattice) (u u′ : List ℕ) → 15 * cells l ≤ length u → Only (5 * cells l) (15 * cells l) u u′ → squaresIn l u′ ≡ squaresIn l u
 squares-same l u u′ h o = only-before (5 * cells l) (15 * cells l) u (record { start = omega arith; end = h }) u′ o 0 (cells l) (omega arith) (omega arith)
+
+-- the state's part, as it is lent and as it comes back
+module _ (l : Lattice) (n : ℕ) (N : n ≡ cells l) (from : ℕ) (X : from ≡ 5 * n) (to : ℕ) (Y : to ≡ 15 * n) where
+  from-is : from ≡ 5 * cells l
+  from-is = omega arith
+
+  to-is : to ≡ 15 * cells l
+  to-is = omega arith
+
+  pub words-lent : (u : List ℕ) → take (to - from) (drop from u) ≡ wordsIn l u
+  unfolding within
+  words-lent u = λ i. take (to-is i - from-is i) (drop (from-is i) u)
+
+  pub squares-lent : (u : List ℕ) → take (n - 0) (drop 0 u) ≡ squaresIn l u
+  unfolding within
+  squares-lent u = ap (λ (k : ℕ). take (k - 0) (drop 0 u)) N
+
+  pub words-put : (u r : List ℕ) → putMid from (to - from) u r ≡ putMid (5 * cells l) (15 * cells l - 5 * cells l) u r
+  words-put u r = λ i. putMid (from-is i) (to-is i - from-is i) u r
 
 module _ (l : Lattice) (m : ℕ) (u : List ℕ) (costs : List Float) (S : Searching l m u costs) where
   pub words-part : Fits (5 * cells l) (15 * cells l) u
@@ -89,13 +108,23 @@ module _ (l : Lattice) (m : ℕ) (u : List ℕ) (costs : List Float) (S : Search
       unfolding visitOf visitAt
       visit-not e = (rw (← B, T, ← F, e), (visited-none, omega arith))
 
-      pub visit-yes : f ≡ true → (k : ℕ) (r : List ℕ) (c′ : List Float)
+      visit-on : f ≡ true → (k : ℕ) (r : List ℕ) (c′ : List Float)
           → searchIn (nodes l) k r c′ ≡ offerOf l v t (searchIn (nodes l) m (wordsIn l u) costs) → (G : Grown (nodes l) k (wordsIn l u) costs r c′) → k ≤ m + 1
           → (searchIn (nodes l) k (wordsIn l (putMid (5 * cells l) (15 * cells l - 5 * cells l) u r)) c′ ≡ visitOf l allowed (squaresIn l u) v d (searchIn (nodes l) m (wordsIn l u) costs))
           × (Visited l k u costs (putMid (5 * cells l) (15 * cells l - 5 * cells l) u r) c′ × (k ≤ m + 1))
       unfolding visitOf visitAt
-      visit-yes e k r c′ O G h =
+      visit-on e k r c′ O G h =
           (rw (← B, T, ← F, e) (ap (λ (w : List ℕ). searchIn (nodes l) k w c′) (words-back k r c′ G) ∙ O), (visited-back k r c′ G, h))
+
+      pub visit-yes : (n : ℕ) → n ≡ cells l → (from : ℕ) → from ≡ 5 * n → (to : ℕ) → to ≡ 15 * n → f ≡ true → (k : ℕ) (r : List ℕ) (c′ : List Float)
+          → searchIn (nodes l) k r c′ ≡ offerOf l v t (searchIn (nodes l) m (take (to - from) (drop from u)) costs) → Grown (nodes l) k (take (to - from) (drop from u)) costs r c′ → k ≤ m + 1
+          → (searchIn (nodes l) k (wordsIn l (putMid from (to - from) u r)) c′ ≡ visitOf l allowed (squaresIn l u) v d (searchIn (nodes l) m (wordsIn l u) costs))
+          × (Visited l k u costs (putMid from (to - from) u r) c′ × (k ≤ m + 1))
+      visit-yes n N from X to Y e k r c′ O G h =
+          let lent = words-lent l n N from X to Y u in
+          subst (λ (x : List ℕ). (searchIn (nodes l) k (wordsIn l x) c′ ≡ visitOf l allowed (squaresIn l u) v d (searchIn (nodes l) m (wordsIn l u) costs)) × (Visited l k u costs x c′ × (k ≤ m + 1)))
+          (sym (words-put l n N from X to Y u r))
+          (visit-on e k r c′ (O ∙ ap (λ (w : List ℕ). offerOf l v t (searchIn (nodes l) m w costs)) lent) (subst (λ (w : List ℕ). Grown (nodes l) k w costs r c′) lent G) h)
 
 -- ---- all neighbours
 

@@ -48,7 +48,7 @@ fn search(l: Lattice, map: &[u8], allowed: &[u8], u: &mut [u32], costs: &mut [f6
     ensures { λ _. ⌜ Only 0 (segmentsFrom (cells l)) (now (u .entry)) (now (u .exit)) ⌝ }
     ensures { λ _. ⌜ length (now (costs .exit)) ≡ length (now (costs .entry)) ⌝ }
 {
-    let end = layout::before(l.grid.ny * l.grid.nx);
+    let end = layout::before(layout::cells(l.grid));
     distance::transform(map, 1, l.grid.nx, l.grid.ny, &mut u[0..end]);
     let limit = limit_of(l);
     super::search::seek(l, limit, allowed, u, costs)
@@ -75,9 +75,9 @@ fn trace(
     ensures { λ _. ⌜ Only (pathFrom (cellsOf s)) (pathEnd (cellsOf s)) (now (w .entry)) (now (w .exit)) ⌝ }
 {
     let n = nodes_of(l);
-    let first = layout::before(l.grid.ny * l.grid.nx);
+    let first = layout::before(layout::cells(l.grid));
     let last = first + n;
-    let size = s.grid.ny * s.grid.nx;
+    let size = layout::cells(s.grid);
     let a = layout::path(size);
     let e = a + 3 * size;
     let k = super::path::lay(l, &u[first..last], &mut w[a..e], to);
@@ -106,7 +106,7 @@ fn around(
     ensures { λ _. ⌜ Only 0 (segmentsFrom (cellsOf s)) (now (u .entry)) (now (u .exit)) ⌝ }
     ensures { λ _. ⌜ Only (costFrom (cellsOf s)) (pathEnd (cellsOf s)) (now (w .entry)) (now (w .exit)) ⌝ }
 {
-    let n = s.grid.ny * s.grid.nx;
+    let n = layout::cells(s.grid);
     let a = layout::cost(n);
     let e = layout::path(n);
     let o = search(l, map, allowed, u, &mut w[a..e]);

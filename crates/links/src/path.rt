@@ -72,7 +72,7 @@ pub fn clear(s: Setup, vs: &[f64], lens: &[u32], map: &[u8], w: &[f64], a: Vec2,
     requires { ⌜ Fitted s (now vs) (now lens) (now map) (now w) ⌝ }
     ensures { λ t. ⌜ t ≡ clearIn s (now (vs .entry)) (now (lens .entry)) (now (map .entry)) (now (w .entry)) a b ⌝ }
 {
-    let n = s.grid.ny * s.grid.nx;
+    let n = layout::cells(s.grid);
     let rim = layout::rim(n);
     let end = layout::crossings(n);
     link_clear(s, &w[0..n], vs, lens, map, &w[rim..end], a, b)
@@ -85,7 +85,7 @@ fn point(s: Setup, w: &[f64], k: usize) -> Vec2
     requires { ⌜ 2 * k + 1 < 3 * cellsOf s ⌝ }
     ensures { λ p. ⌜ p ≡ vertexOf (pathIn s (now (w .entry))) k ⌝ }
 {
-    let n = s.grid.ny * s.grid.nx;
+    let n = layout::cells(s.grid);
     let from = layout::path(n);
     let to = from + 3 * n;
     vertex(&w[from..to], k)
@@ -126,7 +126,7 @@ pub fn keep(s: Setup, w: &mut [f64], k: usize, p: Vec2)
     ensures { λ _. ⌜ pathIn s (now (w .exit)) ≡ putPoint k p (pathIn s (now (w .entry))) ⌝ }
     ensures { λ _. ⌜ Only (pathFrom (cellsOf s)) (pathEnd (cellsOf s)) (now (w .entry)) (now (w .exit)) ⌝ }
 {
-    let n = s.grid.ny * s.grid.nx;
+    let n = layout::cells(s.grid);
     let from = layout::path(n);
     let to = from + 3 * n;
     put(&mut w[from..to], k, p);

@@ -1,6 +1,7 @@
 // The search for a way over the lattice. Two slices hold its state: a number for each node (the node
 // before it; its cost), then the heap of open entries (their nodes; their estimates). In the u32 of the
-// workspace, of n cells, the squares of the distance to stock are at 0 and the state from 5 n to 15 n.
+// workspace, of n cells, the squares of the distance to stock are at 0 and the state is where setup's layout
+// has the nodes before and the heap.
 ghost use mathlib.Core.Path.{_≡_};
 ghost use mathlib.Core.List.{_++_};
 ghost use Prim.Native.Nat.{_+_, _-_, _*_, _≤_, _<_};
@@ -26,6 +27,7 @@ use super::same_node;
 use distance::limits::Limit;
 use setup::fill::fill_doubles;
 use setup::fill::fill_words;
+use setup::layout;
 
 // Whether the goal was reached, and how many nodes were expanded.
 pub struct Sought {
@@ -154,9 +156,9 @@ fn visit(
     let Neighbour::At(t) = b else {
         return m;
     };
-    let n = l.grid.ny * l.grid.nx;
-    let from = 5 * n;
-    let to = 15 * n;
+    let n = layout::cells(l.grid);
+    let from = layout::before(n);
+    let to = layout::segments(n);
     if reaches(l, limit, allowed, &u[0..n], t) {
         return offer(l, &mut u[from..to], costs, m, v, t);
     }
@@ -233,9 +235,9 @@ fn step(
             expanded: i,
         });
     }
-    let n = l.grid.ny * l.grid.nx;
-    let from = 5 * n;
-    let to = 15 * n;
+    let n = layout::cells(l.grid);
+    let from = layout::before(n);
+    let to = layout::segments(n);
     let most = nodes_of(l);
     let e = next(&mut u[from..to], costs, most, m);
     let v = e.node;
@@ -273,7 +275,7 @@ fn run(l: Lattice, limit: Limit, allowed: &[u8], u: &mut [u32], costs: &mut [f64
             Turn::Out(o) => return o,
         }
     }
-    // Not reached: the turn before would be one too many, and answers.
+    // Not reached: the last turn has no node left to expand, and answers.
     Sought {
         found: false,
         expanded: 0,
@@ -291,9 +293,9 @@ pub fn seek(l: Lattice, limit: Limit, allowed: &[u8], u: &mut [u32], costs: &mut
     ensures { λ _. ⌜ Only (beforeFrom (cells l)) (segmentsFrom (cells l)) (now (u .entry)) (now (u .exit)) ⌝ }
     ensures { λ _. ⌜ length (now (costs .exit)) ≡ length (now (costs .entry)) ⌝ }
 {
-    let n = l.grid.ny * l.grid.nx;
-    let from = 5 * n;
-    let to = 15 * n;
+    let n = layout::cells(l.grid);
+    let from = layout::before(n);
+    let to = layout::segments(n);
     begin(l, &mut u[from..to], costs);
     run(l, limit, allowed, u, costs)
 }

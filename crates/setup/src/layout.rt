@@ -3,8 +3,8 @@ ghost use mathlib.Core.Path.{_≡_};
 ghost use Prim.Native.Nat.{_*_, _≤_};
 ghost use Rattle.raster.specs.Grid.{Sides};
 ghost use Rattle.setup.specs.Layout.{most, allowedFrom, reachFrom, abandonedFrom, dirtyFrom, insideFrom, marksFrom};
-ghost use Rattle.setup.specs.Layout.{nearFrom, beforeFrom, heapFrom, segmentsFrom, nextFrom, rowsFrom, logFrom};
-ghost use Rattle.setup.specs.Layout.{ringFrom, tracedFrom, guideFrom, costFrom, estimatesFrom, pathFrom, rimFrom, crossingsFrom};
+ghost use Rattle.setup.specs.Layout.{nearFrom, beforeFrom, segmentsFrom, logFrom};
+ghost use Rattle.setup.specs.Layout.{ringFrom, tracedFrom, guideFrom, costFrom, pathFrom, rimFrom, crossingsFrom};
 use raster::grid::Grid;
 
 // A raster's cells.
@@ -75,32 +75,11 @@ pub fn before(n: usize) -> usize
     5 * n
 }
 
-pub fn heap(n: usize) -> usize
-    requires { ⌜ n ≤ most ⌝ }
-    ensures { λ r. ⌜ r ≡ heapFrom n ⌝ }
-{
-    6 * n
-}
-
 pub fn segments(n: usize) -> usize
     requires { ⌜ n ≤ most ⌝ }
     ensures { λ r. ⌜ r ≡ segmentsFrom n ⌝ }
 {
     15 * n
-}
-
-pub fn next(n: usize) -> usize
-    requires { ⌜ n ≤ most ⌝ }
-    ensures { λ r. ⌜ r ≡ nextFrom n ⌝ }
-{
-    19 * n
-}
-
-pub fn rows(n: usize) -> usize
-    requires { ⌜ n ≤ most ⌝ }
-    ensures { λ r. ⌜ r ≡ rowsFrom n ⌝ }
-{
-    21 * n
 }
 
 pub fn log(n: usize) -> usize
@@ -140,13 +119,6 @@ pub fn cost(n: usize) -> usize
     ensures { λ r. ⌜ r ≡ costFrom n ⌝ }
 {
     10 * n
-}
-
-pub fn estimates(n: usize) -> usize
-    requires { ⌜ n ≤ most ⌝ }
-    ensures { λ r. ⌜ r ≡ estimatesFrom n ⌝ }
-{
-    11 * n
 }
 
 pub fn path(n: usize) -> usize

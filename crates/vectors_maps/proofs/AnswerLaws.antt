@@ -1,8 +1,8 @@
 -- A line that agrees has the answer of the definitions. Assumes nothing.
 use mathlib.Core.Path.{_≡_, refl, sym, ap, _∙_, subst}
-use mathlib.Core.Bool.{Bool, true, _&&_}
+use mathlib.Core.Bool.{true, _&&_}
 use mathlib.Core.List.{List, [], _∷_}
-use Prim.Native.Nat.{ℕ, _+_, _-_, _*_, _≤_, _^_, min}
+use Prim.Native.Nat.{ℕ, _+_, _-_, _*_, _≤_, min}
 use native.Mathlib.Omega.{arith}
 use lib.ListN.{length, getD, set, replicate, length-set}
 use lib.Dec.{eqb}
@@ -25,7 +25,6 @@ use Rattle.vectors_maps.specs.Print.{printOf, rootsOf}
 use Rattle.vectors_maps.specs.Maps.{floatAt, pointAt, gridOf}
 use Rattle.vectors_maps.specs.Answers.{mapOf, told, cutOf, Crescent, verticesOf, lensOf, threeLoops, filledOf, Fill, Contact, Squares}
 use Rattle.vectors_maps.specs.declared.crescent.Removed.{Removed}
-use Rattle.vectors_maps.specs.declared.Judged.{Judged}
 use Rattle.vectors_maps.specs.declared.Judged.the-variants.{Agrees, Differs, Bad}
 
 -- the other two are not `Agrees`

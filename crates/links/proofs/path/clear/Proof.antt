@@ -1,12 +1,17 @@
 -- `links::path::clear` meets its contract. Assumes nothing.
+use mathlib.Core.Path.{sym, ap, _∙_, subst}
+use Prim.Native.Nat.{ℕ, _-_}
+use lib.ListN.{take, drop}
 use Rattle.loops.specs.Regions.{within}
-use borrow.Author.Needs.{needs}
+use Rattle.setup.specs.Place.{Walls}
+use Rattle.links.specs.Straight.{linkClear}
 use Rattle.links.proofs.ShortenLaws.{rim-at}
+use borrow.Author.Needs.{needs}
 use Rattle.links.proofs.path.clear.Statement.{statement}
 use Rattle.links.proofs.path.clear.Tie as tie
 
-mul-n : tie.Need-mul-n
-mul-n c = search needs
+cells-requires : tie.Need-cells-requires
+cells-requires c κs = search needs
 
 rim-requires : tie.Need-rim-requires
 rim-requires c κs = search needs
@@ -37,17 +42,17 @@ part-link-clear-end-2 c = search needs
 
 link-clear-requires : tie.Need-link-clear-requires
 unfolding within
-link-clear-requires c κs = let s = c .before .before .before .before .before .before .before .before .before in (s .pre .walls, (s .pre .over, rim-at (s .args .s) (s .args .w .now) _ (c .before .before .before .rim .ensures) _ (c .before .before .crossings .ensures) (s .pre .rim)))
+link-clear-requires c κs = let s = c .before .before .before .before .before .before .before .before .before in let N = c .before .before .before .before .cells .ensures in (subst (λ (k : ℕ). Walls (s .args .s) (take (k - 0) (drop 0 (s .args .w .now))) (s .args .vs .now) (s .args .lens .now)) (sym N) (s .pre .walls), (s .pre .over, rim-at (s .args .s) (s .args .w .now) _ N _ (c .before .before .before .rim .ensures) _ (c .before .before .crossings .ensures) (s .pre .rim)))
 
 returns : tie.Need-returns
 unfolding within
-returns c = c .link-clear .ensures
+returns c = let a = c .before .before .before .before .before .before .before .before .before .before .args in c .link-clear .ensures ∙ ap (λ (k : ℕ). linkClear (a .s) (take (k - 0) (drop 0 (a .w .now))) (a .vs .now) (a .lens .now) (a .map .now) (a .a) (a .b)) (c .before .before .before .before .before .cells .ensures)
 
 pub clear-spec : {M : Type 1} → statement M
 clear-spec =
     tie.close
     (tie.spec
-    mul-n
+    cells-requires
     rim-requires
     crossings-requires
     sub-link-clear

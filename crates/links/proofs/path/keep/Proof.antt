@@ -1,11 +1,11 @@
 -- `links::path::keep` meets its contract. Assumes nothing.
-use borrow.Author.Needs.{needs}
 use Rattle.links.proofs.ShortenLaws.{keep-is}
+use borrow.Author.Needs.{needs}
 use Rattle.links.proofs.path.keep.Statement.{statement}
 use Rattle.links.proofs.path.keep.Tie as tie
 
-mul-n : tie.Need-mul-n
-mul-n c = search needs
+cells-requires : tie.Need-cells-requires
+cells-requires c κs = search needs
 
 path-requires : tie.Need-path-requires
 path-requires c κs = search needs
@@ -35,13 +35,13 @@ same-length : tie.Need-same-length
 same-length c = search needs
 
 returns : tie.Need-returns
-returns c = let s = c .before .before .before .before .before .before .before in keep-is (s .args .s) _ _ (c .before .before .before .before .path .ensures) _ _ (s .pre .1 .0) _ (c .before .before .put .ensures)
+returns c = let s = c .before .before .before .before .before .before .before in keep-is (s .args .s) _ _ (c .before .before .before .before .before .cells .ensures) _ (c .before .before .before .before .path .ensures) _ _ (s .pre .1 .0) _ (c .before .before .put .ensures)
 
 pub keep-spec : {M : Type 1} → statement M
 keep-spec =
     tie.close
     (tie.spec
-    mul-n
+    cells-requires
     path-requires
     mul-to
     add-to

@@ -2,14 +2,14 @@
 use mathlib.Core.Path.{ap, _∙_}
 use mathlib.Core.List.{List}
 use lib.Ieee.{Float}
-use borrow.Author.Needs.{needs}
 use Rattle.geom.specs.Region.{vertexOf}
 use Rattle.links.proofs.ShortenLaws.{path-at}
+use borrow.Author.Needs.{needs}
 use Rattle.links.proofs.path.point.Statement.{statement}
 use Rattle.links.proofs.path.point.Tie as tie
 
-mul-n : tie.Need-mul-n
-mul-n c = search needs
+cells-requires : tie.Need-cells-requires
+cells-requires c κs = search needs
 
 path-requires : tie.Need-path-requires
 path-requires c κs = search needs
@@ -36,13 +36,13 @@ vertex-requires : tie.Need-vertex-requires
 vertex-requires c κs = search needs
 
 returns : tie.Need-returns
-returns c = let s = c .before .before .before .before .before in c .vertex .ensures ∙ ap (λ (q : List Float). vertexOf q (s .args .k)) (path-at (s .args .s) (s .args .w .now) _ (c .before .before .path .ensures))
+returns c = let s = c .before .before .before .before .before in c .vertex .ensures ∙ ap (λ (q : List Float). vertexOf q (s .args .k)) (path-at (s .args .s) (s .args .w .now) _ (c .before .before .before .cells .ensures) _ (c .before .before .path .ensures))
 
 pub point-spec : {M : Type 1} → statement M
 point-spec =
     tie.close
     (tie.spec
-    mul-n
+    cells-requires
     path-requires
     mul-to
     add-to
