@@ -11,7 +11,7 @@ use borrow.Author.Tests.{eqb-false, lt-ltb, le-ltb}
 use Rattle.loops.specs.Loop.{loop}
 use Rattle.loops.proofs.Cases.{neither}
 use Rattle.loops.proofs.LoopLaws.{loop-keeps}
-use Rattle.distance.specs.Least.{Sides}
+use Rattle.distance.specs.Least.{MapSides}
 use Rattle.raster.specs.Grid.{Over}
 use Rattle.raster.specs.Contact.{samplesOf}
 use Rattle.raster.specs.declared.grid.Grid.{Grid}
@@ -65,7 +65,7 @@ over-small s nx ny n h e = record {
 pub over-made : (s m z : List ℕ) (g : Grid) (x y n nx ny : ℕ) → Small nx ny → g ≡ gridOf s nx ny → m ≡ madeOf x y n z → length z ≡ 1024 → Over g (length m)
 over-made s m z g x y n nx ny h eg em ez = subst (λ (q : Grid). Over q (length m)) (sym eg) (over-small s nx ny (length m) h (made-full x y n 1024 m z em ez))
 
-pub sides-small : (nx ny : ℕ) → Small nx ny → Sides nx ny
+pub sides-small : (nx ny : ℕ) → Small nx ny → MapSides nx ny
 sides-small nx ny h = record { column = h .wide; wide = omega (arith, h .columns); row = h .high; high = omega (arith, h .rows) }
 
 -- the table of a line's samples

@@ -4,7 +4,7 @@ use mathlib.Core.List.{List}
 use lib.ListN.{getD}
 use lib.Ieee.{binary64, toBits}
 use Rattle.loops.specs.Loop.{loop}
-use Rattle.distance.specs.Rooted.{distanceOf}
+use Rattle.distance.specs.Rooted.{rootedOf}
 
 -- one value more, by the remainder of 2^31 - 1
 unfoldable pub mixed : ℕ → ℕ → ℕ
@@ -18,7 +18,7 @@ unfoldable pub printOf : List ℕ → ℕ → ℕ
 printOf s n = loop (mixAt s) 0 n 1
 
 abbrev pub mixRoot : List ℕ → ℕ → ℕ → ℕ
-mixRoot s k h = mixed h (toBits binary64 (distanceOf (getD s k 0)))
+mixRoot s k h = mixed h (toBits binary64 (rootedOf (getD s k 0)))
 
 -- the distances of the first n squares of s, as bit patterns
 unfoldable pub rootsOf : List ℕ → ℕ → ℕ
