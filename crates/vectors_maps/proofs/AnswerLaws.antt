@@ -1,8 +1,8 @@
 -- A line that agrees has the answer of the definitions. Assumes nothing.
 use mathlib.Core.Path.{_≡_, refl, sym, ap, _∙_, subst}
-use mathlib.Core.Bool.{Bool, true, _&&_}
+use mathlib.Core.Bool.{true, _&&_}
 use mathlib.Core.List.{List, [], _∷_}
-use Prim.Native.Nat.{ℕ, _+_, _-_, _*_, _≤_, _^_, min}
+use Prim.Native.Nat.{ℕ, _+_, _-_, _*_, _≤_, min}
 use native.Mathlib.Omega.{arith}
 use lib.ListN.{length, getD, set, replicate, length-set}
 use lib.Dec.{eqb}
@@ -25,7 +25,6 @@ use Rattle.vectors_maps.specs.Print.{printOf, rootsOf}
 use Rattle.vectors_maps.specs.Maps.{floatAt, pointAt, gridOf}
 use Rattle.vectors_maps.specs.Answers.{mapOf, told, cutOf, Crescent, verticesOf, lensOf, threeLoops, filledOf, Fill, Contact, Squares}
 use Rattle.vectors_maps.specs.declared.crescent.Removed.{Removed}
-use Rattle.vectors_maps.specs.declared.Judged.{Judged}
 use Rattle.vectors_maps.specs.declared.Judged.the-variants.{Agrees, Differs, Bad}
 
 -- the other two are not `Agrees`
@@ -110,6 +109,10 @@ held-three a b c s vs z h e l =
 
 pub few-vertices : (a b c : ℕ) → a + b + c ≤ 24 → vertexCount (a ∷ b ∷ c ∷ []) threeLoops ≤ 24
 few-vertices a b c h = omega (arith, vertices-in a b c)
+
+pub filled-is : (g : Grid) (vs : List Float) (v lens m m′ : List ℕ) (z : List Float) → vs ≡ verticesOf v z → m′ ≡ fillRegion g vs lens threeLoops m
+    → m′ ≡ fillRegion g (verticesOf v z) lens threeLoops m
+filled-is g vs v lens m m′ z e d = d ∙ ap (λ (w : List Float). fillRegion g w lens threeLoops m) e
 
 -- of loops that are not too long, the lengths are those of the line
 lens-are : (s : List ℕ) (a b c : ℕ) → a ≡ min (getD s 8 0) 25 → b ≡ min (getD s 9 0) 25 → c ≡ min (getD s 10 0) 25 → a + b + c ≤ 24 → a ∷ b ∷ c ∷ [] ≡ lensOf s

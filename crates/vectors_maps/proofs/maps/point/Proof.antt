@@ -2,7 +2,6 @@
 use Rattle.vectors_maps.specs.Maps.{pointAt}
 use Rattle.geom.specs.Vec.{v2}
 use borrow.Author.Needs.{needs}
-use mathlib.Core.Path.{_≡_, refl}
 use Rattle.vectors_maps.proofs.maps.point.Statement.{statement}
 use Rattle.vectors_maps.proofs.maps.point.Tie as tie
 
