@@ -1,7 +1,6 @@
 // Replays stored answers of the Rust. A line of standard input is a function's name, its arguments and
 // the answer, parted by a blank; numbers are in hexadecimal digits, a float its bit pattern. Names each
 // line that differs or that cannot be read, and at the end says how many lines of each function agreed.
-mod float;
 mod line;
 mod name;
 mod of_numbers;

@@ -3,10 +3,10 @@ ghost use mathlib.Core.Path.{_≡_};
 ghost use Prim.Native.Nat.{_≤_};
 ghost use Rattle.numbers.specs.Order.{totalOf};
 ghost use Rattle.vectors.specs.OfNumbers.{flagOf, signOf, floatOfOne, oneOf, answerOf};
-use super::float::float;
-use super::float::pattern;
-use super::float::single_pattern;
 use super::line::Words;
+use bits::float;
+use bits::pattern;
+use bits::single_pattern;
 use numbers::order::Ordering;
 
 pub fn arguments(f: usize) -> u64

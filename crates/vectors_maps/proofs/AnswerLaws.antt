@@ -110,6 +110,10 @@ held-three a b c s vs z h e l =
 pub few-vertices : (a b c : ℕ) → a + b + c ≤ 24 → vertexCount (a ∷ b ∷ c ∷ []) threeLoops ≤ 24
 few-vertices a b c h = omega (arith, vertices-in a b c)
 
+pub filled-is : (g : Grid) (vs : List Float) (v lens m m′ : List ℕ) (z : List Float) → vs ≡ verticesOf v z → m′ ≡ fillRegion g vs lens threeLoops m
+    → m′ ≡ fillRegion g (verticesOf v z) lens threeLoops m
+filled-is g vs v lens m m′ z e d = d ∙ ap (λ (w : List Float). fillRegion g w lens threeLoops m) e
+
 -- of loops that are not too long, the lengths are those of the line
 lens-are : (s : List ℕ) (a b c : ℕ) → a ≡ min (getD s 8 0) 25 → b ≡ min (getD s 9 0) 25 → c ≡ min (getD s 10 0) 25 → a + b + c ≤ 24 → a ∷ b ∷ c ∷ [] ≡ lensOf s
 lens-are s a b c ea eb ec h =

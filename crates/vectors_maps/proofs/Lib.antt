@@ -1,3 +1,2 @@
-pub mod FloatLaws
 pub mod MapLaws
 pub mod AnswerLaws

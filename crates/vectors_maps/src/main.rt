@@ -5,7 +5,6 @@
 mod contact;
 mod crescent;
 mod fill;
-mod float;
 mod maps;
 mod print;
 mod squares;

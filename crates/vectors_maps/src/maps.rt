@@ -3,8 +3,8 @@ ghost use mathlib.Core.Path.{_≡_};
 ghost use Prim.Native.Nat.{_≤_};
 ghost use lib.ListN.{length};
 ghost use Rattle.vectors_maps.specs.Maps.{madeOf, gridOf, pointAt};
-use super::float::float;
 use super::print::mix;
+use bits::float;
 use geom::vec2::Vec2;
 use raster::grid::Grid;
 

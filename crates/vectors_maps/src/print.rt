@@ -3,7 +3,7 @@ ghost use mathlib.Core.Path.{_≡_};
 ghost use Prim.Native.Nat.{_≤_};
 ghost use lib.ListN.{length};
 ghost use Rattle.vectors_maps.specs.Print.{mixed, printOf, rootsOf};
-use super::float::pattern;
+use bits::pattern;
 use distance::roots::distance_of;
 
 pub fn mix(h: u64, v: u64) -> u64

@@ -1,10 +1,6 @@
 -- `vectors_maps::fill::filled` meets its contract. Assumes nothing.
-use mathlib.Core.Path.{refl, ap, _∙_}
-use mathlib.Core.List.{List, [], _∷_}
-use lib.Ieee.{Float}
-use Rattle.raster.specs.Fill.{fillRegion}
-use Rattle.vectors_maps.specs.Answers.{threeLoops}
-use Rattle.vectors_maps.proofs.AnswerLaws.{held-three, few-vertices}
+use mathlib.Core.Path.{refl}
+use Rattle.vectors_maps.proofs.AnswerLaws.{held-three, few-vertices, filled-is}
 use borrow.Author.Needs.{needs}
 use Rattle.vectors_maps.proofs.fill.filled.Statement.{statement}
 use Rattle.vectors_maps.proofs.fill.filled.Tie as tie
@@ -31,9 +27,7 @@ same-length : tie.Need-same-length
 same-length c = search needs
 
 returns : tie.Need-returns
-returns c =
-    let a = c .before .before .before .before .before .before .before .before .before .before .before .before .args in
-    c .before .before .before .fill-region .ensures ∙ ap (λ (vs : List Float). fillRegion (a .g) vs (a .a ∷ a .b ∷ a .c ∷ []) threeLoops (a .map .now)) (c .before .before .before .before .before .before .before .before .before .vertices .ensures)
+returns c = filled-is _ _ _ _ _ _ _ (c .before .before .before .before .before .before .before .before .before .vertices .ensures) (c .before .before .before .fill-region .ensures)
 
 pub filled-spec : {M : Type 1} → statement M
 filled-spec =

@@ -1,4 +1,4 @@
--- `vectors::float::float` meets its contract. Assumes nothing.
+-- `bits::float` meets its contract. Assumes nothing.
 use mathlib.Core.Path.{sym, subst, _∙_}
 use mathlib.Core.Bool.{Bool, not}
 use Prim.Native.Nat.{_*_, _%_, _^_}
@@ -6,10 +6,10 @@ use lib.Dec.{T}
 use lib.Ieee.{binary64, ofBits, div}
 use lib.Ieee.Bits.{nanBits-above}
 use borrow.Author.Tests.{le-ltb, lt-ltb}
-use Rattle.vectors.proofs.FloatLaws.{nan-read}
+use Rattle.bits.proofs.FloatLaws.{nan-read}
 use borrow.Author.Needs.{needs}
-use Rattle.vectors.proofs.float.float.Statement.{statement}
-use Rattle.vectors.proofs.float.float.Tie as tie
+use Rattle.bits.proofs.float.Statement.{statement}
+use Rattle.bits.proofs.float.Tie as tie
 
 float-from-bits-result : tie.Need-float-from-bits-result
 float-from-bits-result c =

@@ -1,10 +1,10 @@
--- `vectors::float::pattern` meets its contract. Assumes nothing.
+-- `bits::pattern` meets its contract. Assumes nothing.
 use mathlib.Core.Path.{ap}
 use lib.Ieee.{binary64, toBits}
-use Rattle.vectors.proofs.FloatLaws.{no-nan, the-nan}
+use Rattle.bits.proofs.FloatLaws.{no-nan, the-nan}
 use borrow.Author.Needs.{needs}
-use Rattle.vectors.proofs.float.pattern.Statement.{statement}
-use Rattle.vectors.proofs.float.pattern.Tie as tie
+use Rattle.bits.proofs.pattern.Statement.{statement}
+use Rattle.bits.proofs.pattern.Tie as tie
 
 float-to-bits-result : tie.Need-float-to-bits-result
 float-to-bits-result c = no-nan (c .before .args .x) (c .if1 .taken)

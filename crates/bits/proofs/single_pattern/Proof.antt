@@ -1,13 +1,13 @@
--- `vectors::float::single_pattern` meets its contract. Assumes nothing.
+-- `bits::single_pattern` meets its contract. Assumes nothing.
 use native.Mathlib.Omega.{arith}
 use mathlib.Core.Path.{sym, ap, subst}
 use lib.Dec.{T}
 use lib.Ieee.{binary32, toBits}
 use lib.Ieee.Bits.{toBits-lt}
-use Rattle.vectors.proofs.FloatLaws.{no-nan, the-nan}
+use Rattle.bits.proofs.FloatLaws.{no-nan, the-nan}
 use borrow.Author.Needs.{needs}
-use Rattle.vectors.proofs.float.single_pattern.Statement.{statement}
-use Rattle.vectors.proofs.float.single_pattern.Tie as tie
+use Rattle.bits.proofs.single_pattern.Statement.{statement}
+use Rattle.bits.proofs.single_pattern.Tie as tie
 
 float-to-bits-result : tie.Need-float-to-bits-result
 float-to-bits-result c = no-nan (c .before .args .x) (c .if1 .taken)
