@@ -10,7 +10,7 @@ use lib.Ieee.{Float}
 use Rattle.loops.specs.Regions.{within}
 use Rattle.geom.specs.declared.vec2.Vec2.{Vec2}
 use Rattle.raster.specs.Log.{undone, redone}
-use Rattle.setup.specs.Layout.{putRun, mapIn, dirtyIn, segmentsFrom, logFrom}
+use Rattle.setup.specs.Layout.{mapPut, dirtyPut, mapIn, dirtyIn, segmentsFrom, logFrom}
 use Rattle.setup.specs.Place.{allowedAt}
 use Rattle.setup.specs.declared.Setup.{Setup}
 use Rattle.links.specs.Path.{Way, lost, way}
@@ -135,7 +135,7 @@ pub record Listed (rows : List ℕ) (o : List Float) (t : State) (n : ℕ) : Typ
 -- of the bytes the stock map and the dirty cells are written, and no other
 pub record Settled (n : ℕ) (b b′ : List ℕ) : Type 0 where
   pub long : length b′ ≡ length b
-  pub rest : b′ ≡ putRun 4 n (dirtyIn n b′) (putRun 0 n (mapIn n b′) b)
+  pub rest : b′ ≡ dirtyPut n (dirtyIn n b′) (mapPut n (mapIn n b′) b)
 
 -- of the u32 the search's part and the log are written: the pieces stay, and what stands behind the log
 pub record Behind (n : ℕ) (u u′ : List ℕ) : Type 0 where

@@ -6,7 +6,7 @@ ghost use lib.ListN.{length};
 ghost use Rattle.loops.specs.Frame.{Only};
 ghost use Rattle.raster.specs.Grid.{Sides};
 ghost use Rattle.raster.specs.Log.{undone, redone, Logged};
-ghost use Rattle.setup.specs.Layout.{most, putRun, allowedIn, dirtyIn, logIn, mapIn, costFrom, guideFrom, pathEnd, segmentsFrom};
+ghost use Rattle.setup.specs.Layout.{most, mapPut, dirtyPut, allowedIn, dirtyIn, logIn, mapIn, costFrom, guideFrom, pathEnd, segmentsFrom};
 ghost use Rattle.setup.specs.Place.{cellsOf};
 ghost use Rattle.links.specs.Path.{wallIn, Fitted};
 ghost use Rattle.links.specs.Link.{wayBy};
@@ -65,7 +65,7 @@ fn settle(b: &mut [u8], log: &[u32], n: usize, removed: usize)
     requires { ⌜ n ≤ most ⌝ }
     requires { ⌜ 8 * n ≤ length (now b) ⌝ }
     requires { ⌜ Logged (now log) removed n ⌝ }
-    ensures { λ _. ⌜ now (b .exit) ≡ putRun 4 n (undone (now (log .entry)) 0 removed (dirtyIn n (now (b .entry)))) (putRun 0 n (redone (now (log .entry)) 0 removed (mapIn n (now (b .entry)))) (now (b .entry))) ⌝ }
+    ensures { λ _. ⌜ now (b .exit) ≡ dirtyPut n (undone (now (log .entry)) 0 removed (dirtyIn n (now (b .entry)))) (mapPut n (redone (now (log .entry)) 0 removed (mapIn n (now (b .entry)))) (now (b .entry))) ⌝ }
 {
     let d = layout::dirty(n);
     let e = d + n;

@@ -1,34 +1,18 @@
 -- A radius that the search for a helix comes to has all its rim points allowed. Assumes nothing.
-use mathlib.Core.Path.{_≡_, sym, subst}
-use mathlib.Core.Bool.{Bool, false}
+use mathlib.Core.Path.{_≡_, subst}
+use mathlib.Core.Bool.{false}
 use mathlib.Core.Option.{Option, none, some, Option·some-injective}
-use Prim.Native.Nat.{ℕ, zero, suc, _+_, _-_, _≤_, _<_}
+use Prim.Native.Nat.{ℕ}
 use native.Mathlib.Omega.{arith}
-use lib.Dec.{eqb}
 use lib.Ieee.{Float, le}
-use borrow.Author.Tests.{eqb-true, eqb-false, not-false}
-use Rattle.loops.specs.Loop.{turns, loop, Run, on, out, turn, orAt, any}
-use Rattle.loops.proofs.Cases.{by-cases, by-test, neither}
-use Rattle.loops.proofs.LoopLaws.{loop-keeps}
+use borrow.Author.Tests.{not-false}
+use Rattle.loops.specs.Loop.{loop, Run, on, out, turn, any}
+use Rattle.loops.proofs.Cases.{by-test}
+use Rattle.loops.proofs.LoopLaws.{loop-keeps, any-each}
 use Rattle.geom.specs.declared.vec2.Vec2.{Vec2}
 use Rattle.events.specs.Chunk.{Job}
 use Rattle.events.specs.Replay.{HelixGood}
 use Rattle.events.specs.Helix.{rimBlocked, shrink, shrunk, radiusOf}
-
--- where none is found, each is none
-turns-each : (f : ℕ → Bool) (a n : ℕ) → turns (orAt f) a n false ≡ false → (k : ℕ) → k < n → f (a + k) ≡ false
-unfolding turns
-turns-each f a zero h k l = absurd (let z : ⊥ = omega arith in z)
-turns-each f a (suc n) h k l =
-    let z = neither (turns (orAt f) a n false) (f (a + n)) h in
-    by-cases (eqb k n)
-    (λ e. subst (λ (i : ℕ). f (a + i) ≡ false) (sym (eqb-true k n e)) (z .1))
-    (λ e. turns-each f a n (z .0) k (let d = eqb-false k n e in omega arith))
-
-pub any-each : (f : ℕ → Bool) (a e : ℕ) → any f a e ≡ false → (k : ℕ) → a ≤ k → k < e → f k ≡ false
-unfolding any loop
-any-each f a e h k l g =
-    subst (λ (i : ℕ). f i ≡ false) (let z : a + (k - a) ≡ k = omega arith in z) (turns-each f a (e - a) h (k - a) (omega arith))
 
 module _ (j : Job) (c : Vec2) where
   abbrev Serves : Run Float (Option Float) → Type 0

@@ -11,7 +11,7 @@ use Rattle.loops.specs.Regions.{within, put}
 use Rattle.distance.specs.Nearest.{transformOf}
 use Rattle.raster.specs.declared.grid.Grid.{Grid}
 use Rattle.raster.specs.Grid.{Sides}
-use Rattle.setup.specs.Layout.{dirtyFrom, nearFrom, rimFrom, run, putRun, Lent, mapIn, allowedIn, dirtyIn}
+use Rattle.setup.specs.Layout.{dirtyFrom, nearFrom, rimFrom, run, dirtyPut, fieldPut, Lent, mapIn, allowedIn, dirtyIn}
 use Rattle.field.specs.Field.{Sensed, sensed, fieldRows, fieldOf}
 
 -- the squares of the distance to cells that are marked in the bytes from a on are written to the words from c on, with what the transform leaves behind them
@@ -31,7 +31,7 @@ nearPut g b u = squaresPut g (dirtyFrom (g .ny * g .nx)) (nearFrom (g .ny * g .n
 -- before the rows: NaN everywhere, or those squares
 pub record Begun (g : Grid) (all : Bool) (b u : List ℕ) (f : List Float) (u′ : List ℕ) (f′ : List Float) : Type 0 where
   pub words : u′ ≡ cond all u (nearPut g b u)
-  pub singles : f′ ≡ cond all (putRun 0 (g .ny * g .nx) (replicate (g .ny * g .nx) nan) f) f
+  pub singles : f′ ≡ cond all (fieldPut (g .ny * g .nx) (replicate (g .ny * g .nx) nan) f) f
 
 -- the slices are lent, and the rim's directions stand where they belong
 pub record Ready (s : Setup) (b u : List ℕ) (w f : List Float) : Type 0 where
@@ -48,7 +48,7 @@ rowsIn s all b u f =
 -- the rows are worked out into the f32's first run
 pub record Rowed (s : Setup) (all : Bool) (b u : List ℕ) (f : List Float) (r : ℕ) (f′ : List Float) : Type 0 where
   pub sampled : r ≡ rowsIn s all b u f .sampled
-  pub singles : f′ ≡ putRun 0 (s .grid .ny * s .grid .nx) (rowsIn s all b u f .field) f
+  pub singles : f′ ≡ fieldPut (s .grid .ny * s .grid .nx) (rowsIn s all b u f .field) f
 
 unfoldable pub roundOf : Setup → Bool → List ℕ → List ℕ → List Float → Sensed
 roundOf s all b u f =
@@ -58,6 +58,6 @@ roundOf s all b u f =
 -- the field of a round: the bytes that mark dirty cells are cleared
 pub record Done (s : Setup) (all : Bool) (b u : List ℕ) (f : List Float) (r : ℕ) (b′ u′ : List ℕ) (f′ : List Float) : Type 0 where
   pub sampled : r ≡ roundOf s all b u f .sampled
-  pub singles : f′ ≡ putRun 0 (s .grid .ny * s .grid .nx) (roundOf s all b u f .field) f
-  pub bytes : b′ ≡ putRun 4 (s .grid .ny * s .grid .nx) (replicate (s .grid .ny * s .grid .nx) 0) b
+  pub singles : f′ ≡ fieldPut (s .grid .ny * s .grid .nx) (roundOf s all b u f .field) f
+  pub bytes : b′ ≡ dirtyPut (s .grid .ny * s .grid .nx) (replicate (s .grid .ny * s .grid .nx) 0) b
   pub words : u′ ≡ cond all u (nearPut (s .grid) b u)

@@ -4,7 +4,7 @@ ghost use Prim.Native.Nat.{_+_, _*_, _≤_};
 ghost use lib.ListN.{length, replicate};
 ghost use Rattle.distance.specs.Nearest.{listed};
 ghost use Rattle.raster.specs.Grid.{Sides};
-ghost use Rattle.setup.specs.Layout.{putRun};
+ghost use Rattle.setup.specs.Layout.{dirtyPut};
 ghost use Rattle.field.specs.Field.{ringAt};
 ghost use Rattle.field.specs.Round.{squaresPut, stockPut, nearPut, Begun, Ready, Rowed, Done};
 use super::gauge::gauge_of;
@@ -73,7 +73,7 @@ fn begin(g: Grid, all: bool, b: &[u8], u: &mut [u32], f: &mut [f32])
 fn clear_dirty(g: Grid, b: &mut [u8])
     requires { ⌜ Sides g ⌝ }
     requires { ⌜ 5 * (g .ny * g .nx) ≤ length (now b) ⌝ }
-    ensures { λ _. ⌜ now (b .exit) ≡ putRun 4 (g .ny * g .nx) (replicate (g .ny * g .nx) 0) (now (b .entry)) ⌝ }
+    ensures { λ _. ⌜ now (b .exit) ≡ dirtyPut (g .ny * g .nx) (replicate (g .ny * g .nx) 0) (now (b .entry)) ⌝ }
 {
     let n = layout::cells(g);
     let a = layout::dirty(n);

@@ -4,7 +4,10 @@ use mathlib.Core.Bool.{Bool, true, false, _||_}
 use Prim.Native.Nat.{ℕ, zero, suc, _+_, _-_, _*_, _≤_, _<_, max}
 use native.Mathlib.Omega.{arith}
 use native.Mathlib.Nat.{suc-mul}
+use lib.Dec.{eqb}
+use borrow.Author.Tests.{eqb-true, eqb-false}
 use Rattle.loops.specs.Loop.{turns, loop, Run, on, out, turn, orAt, any}
+use Rattle.loops.proofs.Cases.{by-cases, neither}
 
 module _ {S : Type 0} (f : ℕ → S → S) (a : ℕ) where
   -- no turn yet
@@ -149,3 +152,18 @@ module _ (f : ℕ → Bool) (a e : ℕ) where
       sym (loop-split (orAt f) a (k + 1) e false (omega arith) (omega arith)
       ∙ ap (loop (orAt f) (k + 1) e) here
       ∙ loop-keeps (orAt f) (k + 1) (λ (b : Bool). b ≡ true) e (λ i s b c p. ap (λ (q : Bool). q || f i) p) true refl)
+
+-- where none is found, each is none
+turns-each : (f : ℕ → Bool) (a n : ℕ) → turns (orAt f) a n false ≡ false → (k : ℕ) → k < n → f (a + k) ≡ false
+unfolding turns
+turns-each f a zero h k l = absurd (let z : ⊥ = omega arith in z)
+turns-each f a (suc n) h k l =
+    let z = neither (turns (orAt f) a n false) (f (a + n)) h in
+    by-cases (eqb k n)
+    (λ e. subst (λ (i : ℕ). f (a + i) ≡ false) (sym (eqb-true k n e)) (z .1))
+    (λ e. turns-each f a n (z .0) k (let d = eqb-false k n e in omega arith))
+
+pub any-each : (f : ℕ → Bool) (a e : ℕ) → any f a e ≡ false → (k : ℕ) → a ≤ k → k < e → f k ≡ false
+unfolding any loop
+any-each f a e h k l g =
+    subst (λ (i : ℕ). f i ≡ false) (let z : a + (k - a) ≡ k = omega arith in z) (turns-each f a (e - a) h (k - a) (omega arith))

@@ -1,6 +1,7 @@
 -- The workspace: which region of the four lent slices holds what, for a raster of n cells. Definitions only.
 use mathlib.Core.List.{List, [], _∷_}
 use Prim.Native.Nat.{ℕ, _+_, _*_, _≤_}
+use lib.Ieee.{Float}
 use Rattle.loops.specs.Regions.{within, put}
 
 -- the most cells of a raster (document 01, question 14)
@@ -174,6 +175,16 @@ dirtyIn n b = run 4 n b
 
 abbrev pub logIn : ℕ → List ℕ → List ℕ
 logIn n u = run 24 n u
+
+-- the same regions, put
+abbrev pub mapPut : ℕ → List ℕ → List ℕ → List ℕ
+mapPut n m b = putRun 0 n m b
+
+abbrev pub dirtyPut : ℕ → List ℕ → List ℕ → List ℕ
+dirtyPut n d b = putRun 4 n d b
+
+abbrev pub fieldPut : ℕ → List Float → List Float → List Float
+fieldPut n x f = putRun 0 n x f
 
 -- the lent slices are long enough for n cells
 pub record Lent (n b u f w : ℕ) : Type 0 where
