@@ -1,0 +1,2 @@
+-- What the steps of a plan cite: the workspace between them.
+pub mod Standing

@@ -1,0 +1,1 @@
+// What planning keeps in its four lent slices between its steps: see specs/ and proofs/. There is no code here.
