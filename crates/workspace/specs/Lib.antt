@@ -1,2 +1,3 @@
 -- What the steps of a plan cite: the workspace between them.
+pub mod Lies
 pub mod Standing
