@@ -1,1 +1,2 @@
-// What planning keeps in its four lent slices between its steps: see specs/ and proofs/. There is no code here.
+// What planning keeps in its four lent slices between its steps: see specs/ and proofs/.
+pub mod places;

@@ -1,0 +1,4 @@
+pub mod CurvesLaws
+pub mod RoundLaws
+pub mod NudgeLaws
+pub mod RingLaws

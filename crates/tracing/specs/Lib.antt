@@ -1,0 +1,4 @@
+-- What the contracts of `tracing` cite.
+pub mod Curves
+pub mod Round
+pub mod Ring
