@@ -1,6 +1,6 @@
 -- After a piece is cut the lent rows and triples are as long as before, and what is listed lies in them. Assumes nothing.
-use mathlib.Core.Path.{_≡_, refl, sym, ap, _∙_, subst}
-use mathlib.Core.Bool.{Bool, true, false}
+use mathlib.Core.Path.{_≡_, refl, sym, _∙_}
+use mathlib.Core.Bool.{Bool}
 use mathlib.Core.List.{List, [], _∷_, _++_}
 use Prim.Native.Nat.{ℕ, _+_, _-_, _*_, _/_, _≤_}
 use native.Mathlib.Omega.{arith}
@@ -23,7 +23,7 @@ use Rattle.passes.specs.Attempt.{Outcome}
 use Rattle.cutting.specs.Tries.{Tries, triesOf}
 use Rattle.cutting.specs.Way.{routeOf, wayChunks}
 use Rattle.cutting.specs.Listing.{needs, refusalOf}
-use Rattle.cutting.specs.Piece.{spending, Left, WithEvents, lf, listedOf, keptOf, wentOf, worthyOf, afterTries, cutPieceOf}
+use Rattle.cutting.specs.Piece.{spending, Left, WithEvents, listedOf, keptOf, wentOf, worthyOf, afterTries, cutPieceOf}
 use Rattle.cutting.specs.declared.piece.State.{State}
 use Rattle.cutting.specs.declared.piece.Cut.{Cut}
 use Rattle.cutting.specs.declared.piece.Cut.the-variants.{Nothing, Kept, Refused}

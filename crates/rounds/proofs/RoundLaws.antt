@@ -2,7 +2,7 @@
 use mathlib.Core.Path.{_≡_, refl, sym, ap, _∙_, subst}
 use mathlib.Core.Bool.{Bool, false}
 use mathlib.Core.List.{List, [], _++_}
-use Prim.Native.Nat.{ℕ, suc, _+_, _-_, _*_, _≤_, _<_}
+use Prim.Native.Nat.{ℕ, _+_, _-_, _*_, _≤_, _<_}
 use native.Mathlib.Omega.{arith}
 use lib.ListN.{length, getD}
 use lib.Ieee.{Float}
@@ -29,19 +29,19 @@ use Rattle.events.specs.Events.{Event}
 use Rattle.passes.specs.Guide.{pointsIn}
 use Rattle.passes.specs.declared.start.Place.{Place}
 use Rattle.cutting.specs.Tries.{Among}
-use Rattle.cutting.specs.Piece.{Left, lf, leftIn, cutPieceOf, Lends, Listed, Settled, Behind}
+use Rattle.cutting.specs.Piece.{Left, leftIn, cutPieceOf, Lends, Listed, Settled, Behind}
 use Rattle.cutting.specs.declared.piece.State.{State}
 use Rattle.cutting.specs.declared.piece.Cut.{Cut}
 use Rattle.cutting.specs.declared.piece.Cut.the-variants.{Nothing, Kept, Refused}
-use Rattle.workspace.specs.Standing.{reachIn, abandonedIn, Standing, CellsKept}
+use Rattle.workspace.specs.Standing.{abandonedIn, Standing, CellsKept}
 use Rattle.workspace.specs.Lies.{rowsIn, tracedIn, piecesIn, Lying, Lies}
-use Rattle.workspace.proofs.StandingLaws.{standing-fitted, map-long, wall-kept, standing-kept, walls-of, cells-same, cells-more}
+use Rattle.workspace.proofs.StandingLaws.{standing-fitted, standing-kept, walls-of, cells-same, cells-more}
 use Rattle.rounds.specs.Next.{hereOf, noPiece, nextOf, swapRemove}
-use Rattle.rounds.specs.Round.{CutsLeft, cl, cutsIn, CutsWithEvents, cutsWith, Between, bt, answerAfter, goOn, endedOf, cutNextOf, stepOf, cutAllOf, nearestFirst, inOrder, allStay, Traced}
+use Rattle.rounds.specs.Round.{CutsLeft, cl, cutsIn, CutsWithEvents, Between, bt, answerAfter, goOn, endedOf, cutNextOf, stepOf, cutAllOf, nearestFirst, inOrder, allStay, Traced}
 use Rattle.rounds.specs.declared.round.Cuts.{Cuts}
 use Rattle.rounds.specs.declared.round.Cuts.the-variants.{After, Refused as Stopped}
 use Rattle.rounds.proofs.RowsLaws.{row-traced, words-long, log-stays, left-lies, next-in}
-use Rattle.rounds.proofs.RoomLaws.{Fit, FitAfter, Room, cut-room}
+use Rattle.rounds.proofs.RoomLaws.{Fit, FitAfter, cut-room}
 
 -- ---- fits cutting: the bytes that a piece leaves alone
 

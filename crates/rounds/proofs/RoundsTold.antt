@@ -5,7 +5,7 @@ use mathlib.Core.List.{List, [], _++_, append-assoc, append-nil}
 use Prim.Native.Nat.{ℕ}
 use lib.ListN.{length, getD}
 use lib.Ieee.{Float}
-use Rattle.loops.specs.Loop.{loop, Run, on, out, turn}
+use Rattle.loops.specs.Loop.{Run, on, out, turn}
 use Rattle.loops.proofs.LoopLaws.{loop-keeps}
 use Rattle.raster.specs.Grid.{Sides}
 use Rattle.setup.specs.Made.{Measured}
@@ -23,7 +23,7 @@ use Rattle.cutting.specs.declared.piece.Cut.{Cut}
 use Rattle.cutting.specs.declared.piece.Cut.the-variants.{Nothing, Kept, Refused}
 use Rattle.cutting.proofs.CutTold.{Planned, Agrees, Answers, CutTold, cut-told}
 use Rattle.rounds.specs.Next.{noPiece, swapRemove}
-use Rattle.rounds.specs.Round.{CutsLeft, cl, CutsWithEvents, cutsWith, Between, bt, answerAfter, goOn, endedOf, cutNextOf, stepOf, cutAllOf, nearestFirst, cutPiecesOf, inOrder, allStay, cutRingOf}
+use Rattle.rounds.specs.Round.{cl, CutsWithEvents, cutsWith, Between, bt, answerAfter, goOn, endedOf, cutNextOf, stepOf, cutAllOf, nearestFirst, cutPiecesOf, inOrder, allStay, cutRingOf}
 use Rattle.rounds.specs.declared.round.Cuts.{Cuts}
 use Rattle.rounds.specs.declared.round.Cuts.the-variants.{After, Refused as Stopped}
 

@@ -4,7 +4,6 @@ use mathlib.Core.Bool.{false, cond}
 use mathlib.Core.List.{List, []}
 use lib.ListN.{length, getD, take, set}
 use lib.Ieee.{Float, inf}
-use Rattle.loops.specs.Loop.{loop}
 use Rattle.loops.specs.Each.{over}
 use Rattle.numbers.specs.Order.{minOf}
 use Rattle.geom.specs.Vec.{v2, f0, distanceOf}
@@ -12,8 +11,7 @@ use Rattle.geom.specs.declared.vec2.Vec2.{Vec2}
 use Rattle.pieces.specs.Piece.{Piece, rowAt, endOf}
 use Rattle.pieces.specs.declared.row.Row.{Row}
 use Rattle.passes.specs.Simulate.{nowhere}
-use Rattle.passes.specs.Start.{nr, nearer}
-use Rattle.passes.specs.declared.start.Near.{Near}
+use Rattle.passes.specs.Start.{leastBy}
 use Rattle.passes.specs.declared.start.Place.{Place}
 use Rattle.passes.specs.declared.start.Place.the-variants.{At, Nowhere}
 
@@ -37,11 +35,11 @@ pieceFar p here = cond (p .closed) (over (closer here) (p .points) (inf false)) 
 abbrev pub noPiece : Piece
 noPiece = record { points = []; closed = false }
 
-unfoldable pub nextStep : List Piece → Vec2 → ℕ → Near → Near
-nextStep l here k b = nearer b k (pieceFar (getD l k noPiece) here)
+abbrev pub farAt : List Piece → Vec2 → ℕ → Float
+farAt l here k = pieceFar (getD l k noPiece) here
 
 unfoldable pub nextOf : List Piece → Vec2 → ℕ
-nextOf l here = loop (nextStep l here) 1 (length l) (nr 0 (pieceFar (getD l 0 noPiece) here)) .at
+nextOf l here = leastBy (farAt l here) (length l)
 
 -- ---- it is taken out, and the last one takes its place: pieces.swap_remove(k)
 

@@ -1,11 +1,11 @@
 // The rows of a round's pieces in the workspace of n cells.
 ghost use mathlib.Core.Path.{_≡_};
-ghost use Prim.Native.Nat.{_+_, _-_, _*_, _≤_, _<_};
+ghost use Prim.Native.Nat.{_-_, _*_, _≤_, _<_};
 ghost use lib.ListN.{length};
 ghost use Rattle.loops.specs.Regions.{put};
 ghost use Rattle.setup.specs.Layout.{most, rowsFrom, logFrom};
 ghost use Rattle.pieces.specs.Piece.{rowAt, putRow};
-ghost use Rattle.workspace.specs.Lies.{rowsIn, tracedIn, piecesIn, Lying};
+ghost use Rattle.workspace.specs.Lies.{rowsIn, piecesIn, Lying};
 ghost use Rattle.rounds.specs.Next.{hereOf, nextOf};
 use super::next::here;
 use super::next::nearest;

@@ -1,6 +1,5 @@
 -- `rounds::next::here` meets its contract. Assumes nothing.
 use mathlib.Core.Path.{refl}
-use lib.Ieee.{ofBits}
 use Rattle.rounds.specs.Next.{hereOf}
 use Rattle.rounds.proofs.NextLaws.{here-at}
 use borrow.Author.Needs.{needs}

@@ -2,13 +2,13 @@
 use Prim.Native.Nat.{_-_}
 use native.Mathlib.Omega.{arith}
 use lib.Ieee.{ofBits, nanBits}
-use Rattle.rounds.proofs.NextLaws.{Least, least-none, least-more, least-end}
+use Rattle.rounds.proofs.NextLaws.{Closest, closest-none, closest-more, closest-end}
 use borrow.Author.Needs.{needs}
 use Rattle.rounds.proofs.next.least.Statement.{statement}
 use Rattle.rounds.proofs.next.least.Tie as tie
 
 abbrev Inv-loop : tie.InvT-loop
-Inv-loop pts first n to so₀ k₀ so k = Least pts to first n so k
+Inv-loop pts first n to so₀ k₀ so k = Closest pts to first n so k
 
 abbrev μ-loop : tie.MeasureT-loop
 μ-loop pts first n to so₀ k₀ so k = n - k
@@ -19,7 +19,7 @@ float-from-bits-so c = tt
 
 loop-holds : tie.Need-loop-holds Inv-loop μ-loop
 unfolding ofBits
-loop-holds c = least-none _ _ _ _
+loop-holds c = closest-none _ _ _ _
 
 add-vertex : tie.Need-add-vertex Inv-loop μ-loop
 add-vertex c = omega arith
@@ -40,10 +40,10 @@ loop-less : tie.Need-loop-less Inv-loop μ-loop
 loop-less c = omega arith
 
 loop-again : tie.Need-loop-again Inv-loop μ-loop
-loop-again c = least-more _ _ _ _ _ _ _ _ _ (c .before .before .before .before .loop .inv) (c .before .before .before .loop-test .taken) (c .before .before .vertex .ensures) (c .before .distance .ensures) (c .min .ensures)
+loop-again c = closest-more _ _ _ _ _ _ _ _ _ (c .before .before .before .before .loop .inv) (c .before .before .before .loop-test .taken) (c .before .before .vertex .ensures) (c .before .distance .ensures) (c .min .ensures)
 
 returns : tie.Need-returns Inv-loop μ-loop
-returns c = least-end _ _ _ _ _ _ (c .before .loop .inv) (c .loop-test .left)
+returns c = closest-end _ _ _ _ _ _ (c .before .loop .inv) (c .loop-test .left)
 
 pub least-spec : {M : Type 1} → statement M
 least-spec =

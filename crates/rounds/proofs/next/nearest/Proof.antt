@@ -3,15 +3,15 @@ use Prim.Native.Nat.{_-_}
 use native.Mathlib.Omega.{arith}
 use Rattle.loops.proofs.LoopLaws.{Going, going-none, going-more, going-end}
 use Rattle.pieces.specs.Piece.{piecesAt}
-use Rattle.passes.specs.Start.{nr}
-use Rattle.rounds.specs.Next.{nextStep}
+use Rattle.passes.specs.Start.{nr, nearStep}
+use Rattle.rounds.specs.Next.{farAt}
 use Rattle.rounds.proofs.NextLaws.{row-read, next-turn, next-end}
 use borrow.Author.Needs.{needs}
 use Rattle.rounds.proofs.next.nearest.Statement.{statement}
 use Rattle.rounds.proofs.next.nearest.Tie as tie
 
 abbrev Inv-loop : tie.InvT-loop
-Inv-loop rows pts m to d best₀ k₀ best k = Going (nextStep (piecesAt m rows pts) to) 1 m (nr 0 d) best k
+Inv-loop rows pts m to d best₀ k₀ best k = Going (nearStep (farAt (piecesAt m rows pts) to)) 1 m (nr 0 d) best k
 
 abbrev μ-loop : tie.MeasureT-loop
 μ-loop rows pts m to d best₀ k₀ best k = m - k
