@@ -37,7 +37,7 @@ use Rattle.workspace.specs.Standing.{abandonedIn, Standing, CellsKept}
 use Rattle.workspace.specs.Lies.{rowsIn, tracedIn, piecesIn, Lying, Lies}
 use Rattle.workspace.proofs.StandingLaws.{standing-fitted, standing-kept, walls-of, cells-same, cells-more}
 use Rattle.rounds.specs.Next.{hereOf, noPiece, nextOf, swapRemove}
-use Rattle.rounds.specs.Round.{CutsLeft, cl, cutsIn, CutsWithEvents, Between, bt, answerAfter, goOn, endedOf, cutNextOf, stepOf, cutAllOf, nearestFirst, inOrder, allStay, Traced}
+use Rattle.rounds.specs.Round.{CutsLeft, cl, cutsIn, CutsWithEvents, Between, bt, answerAfter, goOn, endedOf, cutNextOf, stepOf, cutAllOf, nearestFirst, inOrder, allStay, Traced, Lists}
 use Rattle.rounds.specs.declared.round.Cuts.{Cuts}
 use Rattle.rounds.specs.declared.round.Cuts.the-variants.{After, Refused as Stopped}
 use Rattle.rounds.proofs.RowsLaws.{row-traced, words-long, log-stays, left-lies, next-in}
@@ -150,7 +150,7 @@ module _ (s : Setup) (vs : List Float) (lens b₀ u₀ : List ℕ) (w₀ o₀ : 
   abbrev pub Done : List ℕ → List ℕ → List Float → List Float → List ℕ → Cuts → Type 0
   Done b u w o rows r =
       (cutsIn size b (logIn size u) rows o r ≡ cutAllOf s (wallIn s w₀) vs lens (allowedIn size b₀) which rest first t₀ (mapIn size b₀) (dirtyIn size b₀) rows₀ (logIn size u₀) o₀ .left)
-      × (CellsKept size b₀ b × ((abandonedIn size b ≡ abandonedIn size b₀) × ((length u ≡ length u₀) × Only (guideFrom size) (pathEnd size) w₀ w)))
+      × (CellsKept size b₀ b × ((abandonedIn size b ≡ abandonedIn size b₀) × ((length u ≡ length u₀) × (Only (guideFrom size) (pathEnd size) w₀ w × Lists rows₀ rows o₀ o r))))
 
   place : (w : List Float) → 32 * size + 8192 ≤ length w → Fits (guideFrom size) (pathEnd size) w
   place w h = record { start = omega arith; end = omega arith }
@@ -182,7 +182,7 @@ module _ (s : Setup) (vs : List Float) (lens b₀ u₀ : List ℕ) (w₀ o₀ : 
   module _ (left : ℕ) (b u : List ℕ) (w o : List Float) (rows : List ℕ) (t : State) (any : Bool) (k : ℕ) (C : Cutting left b u w o rows t any k) where
     pub cutting-ends : m ≤ k → Done b u w o rows (After t any)
     unfolding endedOf
-    cutting-ends h = (loop-all _ (sym (going-end _ _ _ _ _ _ (C .going) h)), (C .cells, (C .gone, (C .words, C .only))))
+    cutting-ends h = (loop-all _ (sym (going-end _ _ _ _ _ _ (C .going) h)), (C .cells, (C .gone, (C .words, (C .only, record { rows-long = C .rows-long; out-long = C .out-long; listed = C .listed })))))
 
     -- which is next
     abbrev pub number : ℕ
@@ -237,13 +237,6 @@ module _ (s : Setup) (vs : List Float) (lens b₀ u₀ : List ℕ) (w₀ o₀ : 
         unfolding stepOf
         turn-is x e = ap (goOn (rest number (C .pieces)) (C .events) next) (sym (ap (λ (l : CutsLeft). l .answer) is-next) ∙ e)
 
-        pub cutting-stops : (code : ℕ) → r ≡ Stopped code → Done b′ u′ w′ o′ rows′ (Stopped code)
-        unfolding goOn endedOf
-        cutting-stops code e = (
-          ap (cutsIn size b′ (logIn size u′) rows′ o′) (sym e) ∙ is-next ∙ loop-all _ (going-out step 0 m begin _ k _ (C .going) h (turn-is (Stopped code) e)),
-          (cells-kept, (gone-kept, (words-kept, only-kept))),
-        )
-
         -- the rows and the points of the others lie where they were
         rows-same : rowsIn size u′ ≡ rowsIn size u₁
         rows-same =
@@ -290,6 +283,13 @@ module _ (s : Setup) (vs : List Float) (lens b₀ u₀ : List ℕ) (w₀ o₀ : 
               fit-rows = omega (arith, rows-still, f .fit-rows);
               fit-triples = omega (arith, out-still, f .fit-triples);
             }
+
+        pub cutting-stops : (code : ℕ) → r ≡ Stopped code → Done b′ u′ w′ o′ rows′ (Stopped code)
+        unfolding goOn endedOf
+        cutting-stops code e = (
+          ap (cutsIn size b′ (logIn size u′) rows′ o′) (sym e) ∙ is-next ∙ loop-all _ (going-out step 0 m begin _ k _ (C .going) h (turn-is (Stopped code) e)),
+          (cells-kept, (gone-kept, (words-kept, (only-kept, record { rows-long = rows-still ∙ C .rows-long; out-long = out-still ∙ C .out-long; listed = tt })))),
+        )
 
         pub cutting-more : (t′ : State) (any′ : Bool) → r ≡ After t′ any′ → Cutting left′ b′ u′ w′ o′ rows′ t′ any′ (k + 1)
         unfolding goOn

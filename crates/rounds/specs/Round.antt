@@ -1,6 +1,7 @@
 -- The pieces of a round cut one after another, as `plan` of adaptive.rs has it: the nearest to the tool first, and along the ring in order. A refusal ends it.
 -- Definitions only.
 use Prim.Native.Nat.{ℕ, _*_, _≤_}
+use mathlib.Core.Path.{_≡_}
 use mathlib.Core.Bool.{Bool, true, false}
 use mathlib.Core.List.{List, [], _++_}
 use lib.ListN.{length, getD}
@@ -12,7 +13,7 @@ use Rattle.pieces.specs.Piece.{Piece, endOf}
 use Rattle.pieces.specs.declared.row.Row.{Row}
 use Rattle.events.specs.Events.{Event}
 use Rattle.passes.specs.declared.start.Place.{Place}
-use Rattle.cutting.specs.Piece.{cutPieceOf}
+use Rattle.cutting.specs.Piece.{cutPieceOf, Listed}
 use Rattle.cutting.specs.declared.piece.State.{State}
 use Rattle.cutting.specs.declared.piece.Cut.{Cut}
 use Rattle.cutting.specs.declared.piece.Cut.the-variants.{Nothing, Kept, Refused}
@@ -120,3 +121,16 @@ cutRingOf s wall vs lens allowed pieces t m d rows log o = cutAllOf s wall vs le
 pub record Traced (n : ℕ) (r : Row) : Type 0 where
   pub some : 1 ≤ r .points
   pub inside : endOf r ≤ 2 * n
+
+-- ---- what callers find again
+
+-- a refusal ends the plan
+abbrev pub ListedAfter : List ℕ → List Float → Cuts → Type 0
+ListedAfter rows o (After t any) = Listed rows o t 0
+ListedAfter rows o (Stopped n) = Unit {0}
+
+-- rows and triples are as long as before, and what is listed lies in them
+pub record Lists (rows rows′ : List ℕ) (o o′ : List Float) (r : Cuts) : Type 0 where
+  pub rows-long : length rows′ ≡ length rows
+  pub out-long : length o′ ≡ length o
+  pub listed : ListedAfter rows′ o′ r

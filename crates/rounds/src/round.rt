@@ -9,7 +9,7 @@ ghost use Rattle.links.specs.Path.{wallIn};
 ghost use Rattle.cutting.specs.Piece.{Listed, Settled, Behind};
 ghost use Rattle.workspace.specs.Standing.{abandonedIn, Standing, CellsKept};
 ghost use Rattle.workspace.specs.Lies.{tracedIn, piecesIn, Lying};
-ghost use Rattle.rounds.specs.Round.{cutsIn, answerAfter, cutNextOf, cutPiecesOf, cutRingOf, Traced};
+ghost use Rattle.rounds.specs.Round.{cutsIn, answerAfter, cutNextOf, cutPiecesOf, cutRingOf, Traced, Lists};
 use super::rows::read;
 use super::rows::take_nearest;
 use cutting::piece::Cut;
@@ -87,6 +87,7 @@ pub fn cut_pieces(
     ensures { λ _. ⌜ abandonedIn (cellsOf s) (now (b .exit)) ≡ abandonedIn (cellsOf s) (now (b .entry)) ⌝ }
     ensures { λ _. ⌜ length (now (u .exit)) ≡ length (now (u .entry)) ⌝ }
     ensures { λ _. ⌜ Only (guideFrom (cellsOf s)) (pathEnd (cellsOf s)) (now (w .entry)) (now (w .exit)) ⌝ }
+    ensures { λ r. ⌜ Lists (now (rows .entry)) (now (rows .exit)) (now (triples .entry)) (now (triples .exit)) r ⌝ }
 {
     let n = s.grid.ny * s.grid.nx;
     let mut at = t;
@@ -127,6 +128,7 @@ pub fn cut_ring(
     ensures { λ _. ⌜ abandonedIn (cellsOf s) (now (b .exit)) ≡ abandonedIn (cellsOf s) (now (b .entry)) ⌝ }
     ensures { λ _. ⌜ length (now (u .exit)) ≡ length (now (u .entry)) ⌝ }
     ensures { λ _. ⌜ Only (guideFrom (cellsOf s)) (pathEnd (cellsOf s)) (now (w .entry)) (now (w .exit)) ⌝ }
+    ensures { λ r. ⌜ Lists (now (rows .entry)) (now (rows .exit)) (now (triples .entry)) (now (triples .exit)) r ⌝ }
 {
     let n = s.grid.ny * s.grid.nx;
     let mut at = t;
