@@ -14,14 +14,7 @@ use pieces::row::Row;
 use pieces::row::put_row;
 use pieces::row::row_at;
 use setup::layout;
-
-// Where the rows begin.
-fn start(n: usize) -> usize
-    requires { ⌜ n ≤ most ⌝ }
-    ensures { λ r. ⌜ r ≡ rowsFrom n ⌝ }
-{
-    21 * n
-}
+use workspace::places;
 
 // Row k.
 pub fn read(u: &[u32], n: usize, k: usize) -> Row
@@ -30,7 +23,7 @@ pub fn read(u: &[u32], n: usize, k: usize) -> Row
     requires { ⌜ k < n ⌝ }
     ensures { λ r. ⌜ r ≡ rowAt (rowsIn n (now (u .entry))) k ⌝ }
 {
-    let a = start(n);
+    let a = places::rows(n);
     let e = layout::log(n);
     row_at(&u[a..e], k)
 }
@@ -57,7 +50,7 @@ fn next(u: &[u32], w: &[f64], n: usize, m: usize, pos: Place) -> usize
     requires { ⌜ 1 ≤ m ⌝ }
     ensures { λ k. ⌜ k ≡ nextOf (piecesIn n m (now (u .entry)) (now (w .entry))) (hereOf pos) ⌝ }
 {
-    let a = start(n);
+    let a = places::rows(n);
     let e = layout::log(n);
     let f = layout::traced(n);
     let g = layout::guide(n);
@@ -75,7 +68,7 @@ pub fn take_nearest(u: &mut [u32], w: &[f64], n: usize, m: usize, pos: Place) ->
     ensures { λ _. ⌜ now (u .exit) ≡ put (rowsFrom n) (logFrom n) (putRow (nextOf (piecesIn n m (now (u .entry)) (now (w .entry))) (hereOf pos)) (rowAt (rowsIn n (now (u .entry))) (m - 1)) (rowsIn n (now (u .entry)))) (now (u .entry)) ⌝ }
 {
     let k = next(u, w, n, m, pos);
-    let a = start(n);
+    let a = places::rows(n);
     let e = layout::log(n);
     swap_remove(&mut u[a..e], m, k)
 }

@@ -4,8 +4,8 @@ use borrow.Author.Needs.{needs}
 use Rattle.rounds.proofs.rows.next.Statement.{statement}
 use Rattle.rounds.proofs.rows.next.Tie as tie
 
-start-requires : tie.Need-start-requires
-start-requires c κs = search needs
+rows-requires : tie.Need-rows-requires
+rows-requires c κs = search needs
 
 log-requires : tie.Need-log-requires
 log-requires c κs = search needs
@@ -44,16 +44,16 @@ here-requires : tie.Need-here-requires
 here-requires c κs = search needs
 
 nearest-requires : tie.Need-nearest-requires
-nearest-requires c κs = let p = c .before .before .before .before .before .before .before .before .before .pre in (lent-readable _ _ _ _ _ (c .before .before .before .before .before .before .start .ensures) (c .before .before .before .before .before .log .ensures) (p .1 .0) (p .1 .1 .1 .0) _ _ _ (c .before .before .before .before .traced .ensures) (c .before .before .before .guide .ensures) (p .1 .1 .0), p .1 .1 .1 .1)
+nearest-requires c κs = let p = c .before .before .before .before .before .before .before .before .before .pre in (lent-readable _ _ _ _ _ (c .before .before .before .before .before .before .rows .ensures) (c .before .before .before .before .before .log .ensures) (p .1 .0) (p .1 .1 .1 .0) _ _ _ (c .before .before .before .before .traced .ensures) (c .before .before .before .guide .ensures) (p .1 .1 .0), p .1 .1 .1 .1)
 
 returns : tie.Need-returns
-returns c = let p = c .before .before .before .before .before .before .before .before .before .before .pre in lent-next _ _ _ _ _ (c .before .before .before .before .before .before .before .start .ensures) (c .before .before .before .before .before .before .log .ensures) (p .1 .0) (p .1 .1 .1 .0) _ _ _ (c .before .before .before .before .before .traced .ensures) (c .before .before .before .before .guide .ensures) (p .1 .1 .0) _ _ _ (c .nearest .ensures) (c .before .here .ensures)
+returns c = let p = c .before .before .before .before .before .before .before .before .before .before .pre in lent-next _ _ _ _ _ (c .before .before .before .before .before .before .before .rows .ensures) (c .before .before .before .before .before .before .log .ensures) (p .1 .0) (p .1 .1 .1 .0) _ _ _ (c .before .before .before .before .before .traced .ensures) (c .before .before .before .before .guide .ensures) (p .1 .1 .0) _ _ _ (c .nearest .ensures) (c .before .here .ensures)
 
 pub next-spec : {M : Type 1} → statement M
 next-spec =
     tie.close
     (tie.spec
-    start-requires
+    rows-requires
     log-requires
     traced-requires
     guide-requires

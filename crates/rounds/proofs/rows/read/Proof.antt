@@ -4,8 +4,8 @@ use borrow.Author.Needs.{needs}
 use Rattle.rounds.proofs.rows.read.Statement.{statement}
 use Rattle.rounds.proofs.rows.read.Tie as tie
 
-start-requires : tie.Need-start-requires
-start-requires c κs = search needs
+rows-requires : tie.Need-rows-requires
+rows-requires c κs = search needs
 
 log-requires : tie.Need-log-requires
 log-requires c κs = search needs
@@ -26,13 +26,13 @@ row-at-requires : tie.Need-row-at-requires
 row-at-requires c κs = search needs
 
 returns : tie.Need-returns
-returns c = read-is _ _ _ _ _ _ (c .before .before .before .start .ensures) (c .before .before .log .ensures) (c .row-at .ensures)
+returns c = read-is _ _ _ _ _ _ (c .before .before .before .rows .ensures) (c .before .before .log .ensures) (c .row-at .ensures)
 
 pub read-spec : {M : Type 1} → statement M
 read-spec =
     tie.close
     (tie.spec
-    start-requires
+    rows-requires
     log-requires
     mul-row-at
     sub-row-at
