@@ -1,4 +1,4 @@
--- What stands before the first round, from the steps; and what its maps hold. Assumes nothing.
+-- What stands before the first round, from what the steps left. Assumes nothing.
 use mathlib.Core.Path.{_≡_, sym, ap, _∙_, subst}
 use mathlib.Core.Bool.{Bool}
 use mathlib.Core.List.{List}

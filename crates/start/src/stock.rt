@@ -135,10 +135,10 @@ fn stock_byte(whole: bool, inside: u8, stock: u8) -> u8
     if whole {
         return inside;
     }
-    if stock == 1 {
-        return inside;
+    if stock != 1 {
+        return 0;
     }
-    0
+    inside
 }
 
 // The stock map, from what is inside and the stock regions' cells.
