@@ -1,18 +1,19 @@
 -- Wall distances, where the tool may go and what it reaches, from what the steps left in the workspace. Assumes nothing.
-use mathlib.Core.Path.{_≡_, refl, sym, ap, _∙_}
+use mathlib.Core.Path.{_≡_, refl, sym, ap, _∙_, subst}
 use mathlib.Core.Bool.{Bool, true, false, _&&_}
 use mathlib.Core.List.{List}
 use Prim.Native.Nat.{ℕ, _+_, _-_, _*_, _/_, _%_, _≤_, _<_}
 use native.Mathlib.Omega.{arith}
-use lib.ListN.{length, getD, take, drop}
-use lib.Dec.{eqb}
+use lib.ListN.{length, getD, take, drop, List·getD-eq-default}
+use lib.Dec.{eqb, ltb}
 use lib.Ieee.{Float, nan, binary64, add, sub, mul, lt, le}
 use borrow.Rule.Slice.PartMut.{putMid}
-use borrow.Author.Tests.{eq-eqb, ne-eqb}
+use borrow.Author.Tests.{eq-eqb, ne-eqb, ltb-true, ltb-false}
 use Rattle.numbers.specs.Small.{half}
 use Rattle.loops.specs.Loop.{loop}
 use Rattle.loops.specs.Regions.{within}
 use Rattle.loops.specs.Frame.{Only}
+use Rattle.loops.proofs.Cases.{by-cases}
 use Rattle.loops.proofs.RegionLaws.{region-long}
 use Rattle.loops.proofs.FrameLaws.{back-there}
 use Rattle.geom.specs.Region.{containsOf}
@@ -34,6 +35,7 @@ use Rattle.setup.proofs.PartLaws.{part-is, put-run-long}
 use Rattle.start.specs.Start.{wallAt, wallsOf, flag, clearAt, mayAt, allowedOf, reachAt, reachOf}
 use Rattle.start.specs.Steps.{lengthAt, mayByte, nearByte, nearAt, Reached}
 use Rattle.start.proofs.WriteLaws.{within-at, writeFrom, run-written, read-run, listed-same}
+use Rattle.start.proofs.StockLaws.{Bits}
 
 -- ---- lengths
 
@@ -221,3 +223,24 @@ module _ (s : Setup) (vs : List Float) (lens b b₁ b₂ : List ℕ) (w : List F
         abandoned = p 3 (λ z. omega arith) ∙ o 3 (λ z. omega arith);
         dirty = p 4 (λ z. omega arith) ∙ o 4 (λ z. omega arith);
       }
+
+-- ---- bytes are 0 or 1
+
+flag-bit : (b : Bool) → flag b ≤ 1
+flag-bit true = omega arith
+flag-bit false = omega arith
+
+listed-bits : (n : ℕ) (f : ℕ → Bool) → Bits (listed n (λ k. flag (f k)))
+listed-bits n f k =
+    let g : ℕ → ℕ = λ i. flag (f i) in
+    by-cases (ltb k n)
+    (λ e. subst (λ (x : ℕ). x ≤ 1) (sym (listed-at g 0 n k (ltb-true k n e))) (flag-bit (f k)))
+    (λ e. subst (λ (x : ℕ). x ≤ 1) (sym (List·getD-eq-default (listed n g) 0 (omega (arith, listed-long g 0 n, ltb-false k n e)))) (omega arith))
+
+pub allowed-bits : (s : Setup) (vs : List Float) (lens inside : List ℕ) (wall : List Float) → Bits (allowedOf s vs lens inside wall)
+unfolding allowedOf
+allowed-bits s vs lens inside wall = listed-bits (cellsOf s) (mayAt s vs lens inside wall)
+
+pub reach-bits : (s : Setup) (start allowed : List ℕ) → Bits (reachOf s start allowed)
+unfolding reachOf
+reach-bits s start allowed = listed-bits (cellsOf s) (reachAt s start allowed)

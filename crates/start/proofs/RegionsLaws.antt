@@ -1,11 +1,12 @@
 -- Each region begins where the one before ends. Assumes nothing.
-use mathlib.Core.Path.{_≡_, sym, ap, _∙_, subst}
+use mathlib.Core.Path.{_≡_, refl, sym, ap, _∙_, subst}
 use mathlib.Core.List.{List}
-use Prim.Native.Nat.{ℕ, zero, suc, _+_, _≤_, _<_}
+use Prim.Native.Nat.{ℕ, zero, suc, _+_, _*_, _≤_, _<_}
 use native.Mathlib.Omega.{arith}
 use lib.ListN.{length, getD}
 use lib.Ieee.{Float}
-use Rattle.loops.proofs.LoopLaws.{loop-none, loop-more}
+use Rattle.loops.specs.Loop.{loop}
+use Rattle.loops.proofs.LoopLaws.{loop-none, loop-more, loop-split, loop-keeps}
 use Rattle.geom.specs.Region.{startOf, sizeOf, vertexCount, Held}
 use Rattle.geom.specs.declared.region.Region.{Region}
 use Rattle.geom.proofs.RegionLaws.{region, start-first, start-next}
@@ -58,3 +59,30 @@ module _ (vs : List Float) (lens regions : List ℕ) (h : AllHeld vs lens region
 
   pub few-is : vertexCount lens r ≤ 4096
   few-is = subst (λ (q : Region). vertexCount lens q ≤ 4096) (sym e) (h .few k b)
+
+-- ---- regions whose loops and vertices add up to what is lent are held
+
+pub sum-le : (l : List ℕ) (k n : ℕ) → k ≤ n → sumTo l k ≤ sumTo l n
+unfolding sumTo
+sum-le l k n h =
+    let f : ℕ → ℕ → ℕ = λ i s. s + getD l i 0 in
+    subst (λ (m : ℕ). loop f 0 k 0 ≤ m) (sym (loop-split f 0 k n 0 (omega arith) h)) (loop-keeps f k (λ (m : ℕ). loop f 0 k 0 ≤ m) n (λ i s a b p. omega arith) (loop f 0 k 0) (omega arith))
+
+module _ (vs : List Float) (lens regions : List ℕ) (loops : sumTo regions (length regions) ≤ length lens) where
+  -- where region k ends
+  region-end : (k : ℕ) → k < length regions → let r = regionAt lens regions k in (r .first + r .loops ≤ length lens) × (startOf lens r (r .loops) ≤ sumTo lens (length lens))
+  unfolding regionAt
+  region-end k b =
+      let next = sum-more regions k in
+      let up = sum-le regions (k + 1) (length regions) (omega arith) in
+      let end : startOf lens (regionAt lens regions k) (getD regions k 0) ≡ sumTo lens (sumTo regions (k + 1)) = next-at lens regions k (regionAt lens regions k) refl in
+      let far = sum-le lens (sumTo regions (k + 1)) (length lens) (omega arith) in
+      (omega arith, omega arith)
+
+  pub all-held : 0 < length regions → ((k : ℕ) → k < length regions → 0 < getD regions k 0) → 2 * sumTo lens (length lens) ≤ length vs → sumTo lens (length lens) ≤ 4096 → AllHeld vs lens regions
+  unfolding regionAt
+  all-held some each vertices few = record {
+    some = some;
+    held = λ k b. let e = region-end k b in record { some = each k b; sizes = e .0; vertices = omega (arith, e .1) };
+    few = λ k b. omega (arith, region-end k b .1);
+  }

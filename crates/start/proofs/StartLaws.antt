@@ -16,7 +16,7 @@ use Rattle.raster.specs.Grid.{Sides}
 use Rattle.raster.specs.Contact.{samplesOf, Rim, rimmed}
 use Rattle.raster.specs.declared.grid.Grid.{Grid}
 use Rattle.raster.proofs.ContactLaws.{rim-long}
-use Rattle.setup.specs.Layout.{run, rimFrom, crossingsFrom}
+use Rattle.setup.specs.Layout.{run, rimFrom, crossingsFrom, Lent}
 use Rattle.setup.specs.Place.{cellsOf}
 use Rattle.setup.specs.declared.Setup.{Setup}
 use Rattle.setup.proofs.LayoutLaws.{run-put}
@@ -94,3 +94,8 @@ module _ (s : Setup) (whole : Bool) (vs : List Float) (lens regions b u : List �
           table = W .rim;
         };
       }
+
+-- ---- the lengths that the entry asks for
+
+pub room-of : (n b u f w : ℕ) → Lent n b u f w → Room n b u w
+room-of n b u f w l = record { bytes = l .bytes; words = l .words; doubles = l .doubles }
