@@ -2,10 +2,9 @@
 use mathlib.Core.Path.{refl}
 use native.Mathlib.Omega.{arith}
 use borrow.Author.Needs.{needs}
-use Rattle.start.proofs.ReachLaws.{reach-is}
 use Rattle.distance.proofs.NearestLaws.{transform-long}
 use Rattle.setup.proofs.PartLaws.{part-long}
-use Rattle.start.proofs.ReachLaws.{map-sides, squares-room}
+use Rattle.start.proofs.ReachLaws.{reach-is, map-sides, squares-room}
 use Rattle.start.proofs.reach.fill_reach.Statement.{statement}
 use Rattle.start.proofs.reach.fill_reach.Tie as tie
 

@@ -1,14 +1,13 @@
 -- `start::stock::add_regions` meets its contract. Assumes nothing.
 use mathlib.Core.Path.{_≡_, refl, ap, _∙_}
-use Prim.Native.Nat.{_-_}
+use Prim.Native.Nat.{_-_, ℕ}
 use native.Mathlib.Omega.{arith}
 use lib.ListN.{length}
+use mathlib.Core.List.{List}
+use lib.Ieee.{Float}
 use Rattle.loops.proofs.LoopLaws.{Going, going-none, going-more, going-end}
 use Rattle.geom.proofs.RegionLaws.{region}
 use Rattle.raster.specs.Fill.{fillRegion}
-use mathlib.Core.List.{List}
-use Prim.Native.Nat.{ℕ}
-use lib.Ieee.{Float}
 use Rattle.geom.specs.declared.region.Region.{Region}
 use Rattle.raster.specs.declared.grid.Grid.{Grid}
 use Rattle.start.specs.Regions.{regionAt}

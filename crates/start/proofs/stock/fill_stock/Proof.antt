@@ -3,10 +3,10 @@ use mathlib.Core.Path.{refl}
 use Prim.Native.Nat.{_+_}
 use native.Mathlib.Omega.{arith}
 use borrow.Author.Needs.{needs}
-use Rattle.start.proofs.WriteLaws.{lent-put}
 use Rattle.setup.proofs.PartLaws.{part-long}
-use Rattle.start.specs.Start.{addRegions}
 use Rattle.loops.proofs.RegionLaws.{region-long}
+use Rattle.start.specs.Start.{addRegions}
+use Rattle.start.proofs.WriteLaws.{lent-put}
 use Rattle.start.proofs.stock.fill_stock.Statement.{statement}
 use Rattle.start.proofs.stock.fill_stock.Tie as tie
 

@@ -2,9 +2,8 @@
 use mathlib.Core.Path.{refl}
 use native.Mathlib.Omega.{arith}
 use borrow.Author.Needs.{needs}
-use Rattle.start.proofs.ReachLaws.{walls-are}
 use Rattle.setup.proofs.PartLaws.{part-long}
-use Rattle.start.proofs.ReachLaws.{map-sides, squares-room}
+use Rattle.start.proofs.ReachLaws.{walls-are, map-sides, squares-room}
 use Rattle.start.proofs.walls.fill_walls.Statement.{statement}
 use Rattle.start.proofs.walls.fill_walls.Tie as tie
 
