@@ -15,7 +15,7 @@ use Rattle.loops.specs.Frame.{Only}
 use Rattle.loops.specs.Cells.{ones}
 use Rattle.loops.specs.Each.{Each}
 use Rattle.loops.proofs.Cases.{by-test, both}
-use Rattle.loops.proofs.LoopLaws.{loop-both, Going, going-none, going-end, going-out, going-on}
+use Rattle.loops.proofs.LoopLaws.{loop-keeps, loop-both, Going, going-none, going-end, going-out, going-on}
 use Rattle.loops.proofs.CellLaws.{row-below, ones-mark, ones-le}
 use Rattle.loops.proofs.SetLaws.{set-within}
 use Rattle.loops.proofs.FrameLaws.{only-same, only-more, only-before}
@@ -302,3 +302,30 @@ first-cell s v c l e = getD-set-same s 0 v 0 l ∙ e
 
 pub some-room : (g : Grid) → Sides g → (s : List ℕ) → 9 * (g .ny * g .nx) ≤ length s → 0 < length s
 some-room g S s h = let r = row-below 0 (g .ny) (g .nx) (g .ny * g .nx) (S .high) (omega arith) in omega (arith, S .wide)
+
+-- ---- lengths
+
+abbrev GoneLong : ℕ → Run Flood (List ℕ) → Type 0
+GoneLong n (on s) = length (s .gone) ≡ n
+GoneLong n (out gone) = length gone ≡ n
+
+module _ (g : Grid) (map reach : List ℕ) (n : ℕ) where
+  pop-long : (stack gone : List ℕ) → length gone ≡ n → GoneLong n (popOf g map reach stack gone)
+  unfolding popOf visitOf
+  pop-long [] gone h = h
+  pop-long (k ∷ rest) gone h =
+      by-test (λ (s : Flood). length (s .gone) ≡ n) (openAt map reach gone k) (fl (aroundOf g k rest) (set gone k 1)) (fl rest gone) (λ t. length-set gone k 1 ∙ h) (λ t. h)
+
+  step-long : (i : ℕ) (r : Run Flood (List ℕ)) → GoneLong n r → GoneLong n (turn (floodStep g map reach) i r)
+  unfolding turn floodStep
+  step-long i (on s) h = pop-long (s .stack) (s .gone) h
+  step-long i (out gone) h = h
+
+  flooded-long : (r : Run Flood (List ℕ)) → GoneLong n r → length (flooded r) ≡ n
+  unfolding flooded
+  flooded-long (on s) h = h
+  flooded-long (out gone) h = h
+
+  pub flood-long : (k : ℕ) (gone : List ℕ) → length gone ≡ n → length (floodOf g map reach k gone) ≡ n
+  unfolding floodOf
+  flood-long k gone h = flooded-long _ (loop-keeps (turn (floodStep g map reach)) 0 (GoneLong n) (floodTurns g) (λ i r a b l. step-long i r l) (on (fl (k ∷ []) gone)) h)
