@@ -1,4 +1,5 @@
--- For the proofs of the functions: `RadiusLaws`, `SearchLaws`, `EnterLaws`.
+-- For the proofs of the functions: `RadiusLaws`, `SearchLaws`, `EnterLaws`. `HelixTold`: demand 3 over the search for an entry.
 pub mod RadiusLaws
 pub mod SearchLaws
 pub mod EnterLaws
+pub mod HelixTold
