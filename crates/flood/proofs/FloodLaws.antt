@@ -1,6 +1,6 @@
 -- The flood's stack in its slice, one cell visited, and that the flood ends: its turns are never used up. Assumes nothing.
 use mathlib.Core.Path.{_≡_, refl, sym, ap, _∙_, subst}
-use mathlib.Core.Bool.{Bool, true, false, cond, not, _&&_}
+use mathlib.Core.Bool.{Bool, true, false, cond}
 use mathlib.Core.List.{List, [], _∷_, _++_}
 use Prim.Native.Nat.{ℕ, zero, suc, _+_, _-_, _*_, _/_, _%_, _≤_, _<_}
 use native.Mathlib.Omega.{arith}
@@ -21,7 +21,7 @@ use Rattle.loops.proofs.SetLaws.{set-within}
 use Rattle.loops.proofs.FrameLaws.{only-same, only-more, only-before}
 use Rattle.raster.specs.Grid.{Sides}
 use Rattle.raster.specs.declared.grid.Grid.{Grid}
-use Rattle.setup.specs.Layout.{run, mapIn}
+use Rattle.setup.specs.Layout.{mapIn}
 use Rattle.setup.proofs.PartLaws.{run-long}
 use Rattle.workspace.specs.Standing.{reachIn, abandonedIn, abandonedPut}
 use Rattle.flood.specs.Place.{openAt}
@@ -95,7 +95,11 @@ module _ (g : Grid) (S : Sides g) (k : ℕ) (h : k < g .ny * g .nx) where
   right-below l = let r = row-below (k / g .nx) (g .ny) (g .nx) (g .ny * g .nx) row-there (omega arith) in omega (arith, parts)
 
   pub up-below : k / g .nx + 1 < g .ny → k + g .nx < g .ny * g .nx
-  up-below l = let r = row-below (k / g .nx + 1) (g .ny) (g .nx) (g .ny * g .nx) l (omega arith) in let d : (k / g .nx + 1) * g .nx ≡ k / g .nx * g .nx + g .nx = add-mul (k / g .nx) 1 (g .nx) ∙ ap (λ (x : ℕ). k / g .nx * g .nx + x) (one-mul (g .nx)) in let m = mod-lt k (S .wide) in omega (arith, parts)
+  up-below l =
+      let r = row-below (k / g .nx + 1) (g .ny) (g .nx) (g .ny * g .nx) l (omega arith) in
+      let d : (k / g .nx + 1) * g .nx ≡ k / g .nx * g .nx + g .nx = add-mul (k / g .nx) 1 (g .nx) ∙ ap (λ (x : ℕ). k / g .nx * g .nx + x) (one-mul (g .nx)) in
+      let m = mod-lt k (S .wide) in
+      omega (arith, parts)
 
 module _ (g : Grid) (k₀ k i j : ℕ) (p : k ≡ k₀) (q : i ≡ k₀ % g .nx) (r : j ≡ k₀ / g .nx) where
   pub around-is : (l l₁ l₂ l₃ l₄ : List ℕ) → l₁ ≡ cond (ltb 0 i) ((k - 1) ∷ l) l → l₂ ≡ cond (ltb 0 j) ((k - g .nx) ∷ l₁) l₁

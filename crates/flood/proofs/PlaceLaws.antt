@@ -2,13 +2,12 @@
 use mathlib.Core.Path.{_≡_, refl, sym, ap, _∙_, subst}
 use mathlib.Core.Bool.{Bool, true, false, cond, not, _&&_}
 use mathlib.Core.List.{List}
-use Prim.Native.Nat.{ℕ, _+_, _-_, _*_, _≤_, _<_}
+use Prim.Native.Nat.{ℕ, _+_, _-_, _*_, _<_}
 use native.Mathlib.Omega.{arith}
-use lib.ListN.{length, getD}
+use lib.ListN.{getD}
 use lib.Seq.{getD-take, getD-drop}
 use lib.Dec.{eqb}
 use lib.Ieee.{Float, nan, lt}
-use Rattle.loops.specs.Loop.{loop}
 use Rattle.loops.specs.Regions.{within}
 use Rattle.loops.proofs.Cases.{by-test}
 use Rattle.loops.proofs.LoopLaws.{loop-keeps}

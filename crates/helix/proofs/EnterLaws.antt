@@ -7,11 +7,11 @@ use native.Mathlib.Omega.{arith}
 use lib.ListN.{length, take, drop}
 use lib.Dec.{eqb}
 use lib.Ieee.{Float, binary64, add}
-use borrow.Author.Tests.{lt-ltb, le-ltb, eq-eqb, ne-eqb}
+use borrow.Author.Tests.{lt-ltb, le-ltb, eq-eqb, ne-eqb, eqb-true}
 use borrow.Rule.Slice.PartMut.{putMid}
 use Rattle.loops.specs.Regions.{Fits, within}
 use Rattle.loops.specs.Frame.{Only}
-use Rattle.loops.proofs.Cases.{by-cases}
+use Rattle.loops.proofs.Cases.{by-test}
 use Rattle.loops.proofs.RegionLaws.{region-long}
 use Rattle.loops.proofs.FrameLaws.{back-only, only-same, put-only}
 use Rattle.geom.specs.declared.vec2.Vec2.{Vec2}
@@ -22,12 +22,13 @@ use Rattle.setup.specs.Layout.{run, putRun, mapIn, allowedIn}
 use Rattle.setup.specs.Place.{cellsOf, Walls}
 use Rattle.setup.specs.declared.Setup.{Setup}
 use Rattle.setup.proofs.LayoutLaws.{run-put, run-other}
-use Rattle.setup.proofs.PartLaws.{part-is, run-long, back-is, put-run-long, run-same}
+use Rattle.setup.proofs.PartLaws.{part-is, run-long, back-is, put-run-long}
 use Rattle.links.specs.Path.{wallIn}
 use Rattle.events.specs.Chunk.{helix}
 use Rattle.events.specs.Replay.{helixEnd}
 use Rattle.events.specs.Events.{Event, entered}
 use Rattle.events.specs.Lent.{tripleAt, rowAt, setRow, setTriple}
+use Rattle.events.proofs.ShiftLaws.{set3-long}
 use Rattle.passes.specs.declared.start.Place.the-variants.{At}
 use Rattle.cutting.specs.Listing.{needs, refusalOf}
 use Rattle.cutting.specs.Piece.{sta, Listed}
@@ -225,3 +226,39 @@ module _ (s : Setup) (t : State) (vs : List Float) (lens : List ℕ) (pref : Flo
             ∙ sym (answered-by ∙ ap (λ (x : Found). afterSearch s t (run 0 cells b₁) (run 3 cells b₁) rows o x (sought .events) .left) e),
         (settled-both cells b (H .bytes) (sought .gone) gone-long b₁ B b₂ O, heap-only),
       )
+
+-- ---- for callers: what is listed lies in rows and triples again
+
+abbrev pub ListedAfter : State → List ℕ → List Float → Entered → Type 0
+ListedAfter t rows o (Bored t′ n) = Listed rows o t′ 0
+ListedAfter t rows o (NoRoom n) = Listed rows o t 0
+ListedAfter t rows o (Refused k) = Unit {0}
+
+module _ (s : Setup) (t : State) (m gone rows : List ℕ) (o : List Float) (L : Listed rows o t 0) where
+  abbrev Lies : WithEvents → Type 0
+  Lies q = ListedAfter t (q .left .rows) (q .left .out) (q .left .answer)
+
+  bored-listed : (c : Vec2) (rad : Float) (n : ℕ) (es : List Event) → Lies (listedOf s t m gone rows o c rad n es)
+  unfolding listedOf boredOf
+  bored-listed c rad n es =
+      by-test Lies (eqb (refusalOf (length o / 3 - t .triples) (length rows / 3 - t .rows) (needs (helix c rad ∷ []))) 0) _ _
+      (λ z. let f = refusal-none (length o / 3 - t .triples) (length rows / 3 - t .rows) 0 1 (eqb-true _ 0 z) in
+      let r = set3-long rows (t .rows * 3) 1 (t .triples) 1 in
+      let k = set3-long o (t .triples * 3) (c .x) (c .y) rad in
+      record {
+        countable = record { few-rows = omega (arith, r, L .countable .few-rows); few-triples = omega (arith, k, L .countable .few-triples) };
+        fit-rows = omega (arith, r, f .1);
+        fit-triples = omega (arith, k, f .0);
+      })
+      (λ z. tt)
+
+  found-listed : (f : Found) (es : List Event) → Lies (afterSearch s t m gone rows o f es)
+  unfolding afterSearch
+  found-listed (Nothing n) es = L
+  found-listed (Helix c rad n) es = bored-listed c rad n es
+
+pub helix-listed : (s : Setup) (wall vs : List Float) (lens allowed reach : List ℕ) (pref : Float) (t : State) (m gone rows : List ℕ) (o : List Float) → Listed rows o t 0
+    → let l = helixOf s wall vs lens allowed reach pref t m gone rows o .left in ListedAfter t (l .rows) (l .out) (l .answer)
+unfolding helixOf
+helix-listed s wall vs lens allowed reach pref t m gone rows o L =
+    let q : Sought = seekOf s wall vs lens allowed reach pref m gone in found-listed s t m (q .gone) rows o L (q .found) (q .events)

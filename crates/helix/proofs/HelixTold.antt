@@ -1,26 +1,25 @@
 -- Demand 3 over the search for an entry: behind the plan so far its events are legal and told by their rows, and the lent slices hold these. Assumes nothing.
 use mathlib.Core.Path.{_≡_, refl, sym, ap, _∙_, subst}
-use mathlib.Core.Bool.{Bool, true, false}
 use mathlib.Core.List.{List, [], _∷_, _++_, append-assoc, append-nil}
 use mathlib.Core.Option.{Option, none, some}
-use Prim.Native.Nat.{ℕ, _+_, _-_, _*_, _/_, _≤_, _<_}
+use Prim.Native.Nat.{ℕ, _+_, _-_, _*_, _/_, _≤_}
 use native.Mathlib.Omega.{arith}
 use lib.ListN.{length, length-append}
 use lib.Dec.{eqb}
 use lib.Ieee.{Float, binary64, add}
 use borrow.Author.Tests.{eqb-true}
-use Rattle.loops.specs.Loop.{loop, Run, on, out, turn}
+use Rattle.loops.specs.Loop.{Run, on, out, turn}
 use Rattle.loops.proofs.Cases.{by-test}
 use Rattle.loops.proofs.LoopLaws.{loop-both}
 use Rattle.geom.specs.declared.vec2.Vec2.{Vec2}
 use Rattle.raster.specs.Stock.{clearDisk}
-use Rattle.raster.specs.Log.{Stock, st}
+use Rattle.raster.specs.Log.{Stock}
 use Rattle.raster.proofs.StockLaws.{clear-disk-left}
 use Rattle.setup.specs.declared.Setup.{Setup}
-use Rattle.events.specs.Chunk.{Chunk, helix, Spot, Job}
+use Rattle.events.specs.Chunk.{helix, Spot, Job}
 use Rattle.events.specs.Replay.{helixEnd}
 use Rattle.events.specs.Helix.{radiusOf}
-use Rattle.events.specs.Events.{Event, entered, givenUp, State, state, bored, step, steps, after, PlaceChecked, LegalFrom, Legal, Fit}
+use Rattle.events.specs.Events.{Event, entered, givenUp, State, bored, step, steps, after, PlaceChecked, Fit}
 use Rattle.events.specs.Followed.{Followed}
 use Rattle.events.specs.Lent.{tripleAt, rowAt, allTriples, Holds, setRow, setTriple}
 use Rattle.events.specs.Told.{howMany, eventsOf, Demand3}
@@ -36,10 +35,9 @@ use Rattle.cutting.specs.Listing.{needs, refusalOf}
 use Rattle.cutting.specs.Piece.{sta}
 use Rattle.cutting.specs.declared.piece.State.{State as Plan}
 use Rattle.cutting.proofs.RefusalLaws.{refusal-none}
-use Rattle.cutting.proofs.TriesLegal.{Idle}
 use Rattle.cutting.proofs.CutTold.{Planned, Agrees}
-use Rattle.helix.specs.Search.{placeOf, abandonOf, entryOf, radiusAt, Seeking, Sought, sk, so, soughtEnd, fitting, attemptAt, attemptOf, stepBy, seekStep, seekOf}
-use Rattle.helix.specs.Enter.{Left, lf, WithEvents, withEvents, boredOf, listedOf, afterSearch, helixOf}
+use Rattle.helix.specs.Search.{placeOf, abandonOf, entryOf, radiusAt, Seeking, Sought, sk, soughtEnd, fitting, attemptAt, attemptOf, stepBy, seekStep, seekOf}
+use Rattle.helix.specs.Enter.{lf, WithEvents, withEvents, boredOf, listedOf, afterSearch, helixOf}
 use Rattle.helix.specs.declared.search.Attempt.{Attempt}
 use Rattle.helix.specs.declared.search.Found.{Found}
 use Rattle.helix.specs.declared.search.Found.the-variants.{Helix, Nothing}
@@ -288,13 +286,18 @@ module _ (s : Setup) (wall vs : List Float) (lens start allowed reach : List ℕ
         let a : (t .rows + 1) * 3 ≤ length rows = omega (arith, f .1) in
         let b : (t .triples + 1) * 3 ≤ length o = omega (arith, f .0) in
         let x : (es ++ fs) ++ (entered c rad ∷ []) ≡ es ++ (fs ++ (entered c rad ∷ [])) = append-assoc es fs (entered c rad ∷ []) in
-        let P = subst (λ (w : List Event). Planned theJob w (clearDisk (s .grid) c (add binary64 rad (s .r)) m .cells) now l (setRow (t .rows) (rowAt (t .triples) (helix c rad)) rows) (setTriple (t .triples) (tripleAt c rad) o)) x (planned-entered theJob (es ++ fs) m now l rows o (h .planned) t (h .agrees) c rad p a b) in
+        let map : List ℕ = clearDisk (s .grid) c (add binary64 rad (s .r)) m .cells in
+        let rows′ : List ℕ = setRow (t .rows) (rowAt (t .triples) (helix c rad)) rows in
+        let o′ : List Float = setTriple (t .triples) (tripleAt c rad) o in
+        let t′ : Plan = sta (At (helixEnd c rad)) (t .rows + 1) (t .triples + 1) (t .«planned_max») (t .work) in
+        let P = subst (λ (w : List Event). Planned theJob w map now l rows′ o′) x (planned-entered theJob (es ++ fs) m now l rows o (h .planned) t (h .agrees) c rad p a b) in
         record {
           planned = P;
           claim = demand3 theJob F (es ++ (fs ++ (entered c rad ∷ []))) (P .legal);
           answers = (
-            subst (λ (w : List Event). Agrees (after theJob w) (sta (At (helixEnd c rad)) (t .rows + 1) (t .triples + 1) (t .«planned_max») (t .work))) x (agrees-entered theJob (es ++ fs) m now l rows o (h .planned) t (h .agrees) c rad p a b),
-            ap (eventsOf 5) (sym x) ∙ events-append 5 (es ++ fs) (entered c rad ∷ []) ∙ (let y = no-gone c rad in let v = places-are in let u : eventsOf 5 (es ++ fs) + eventsOf 5 (entered c rad ∷ []) ≡ eventsOf 5 es + n = omega arith in u),
+            subst (λ (w : List Event). Agrees (after theJob w) t′) x (agrees-entered theJob (es ++ fs) m now l rows o (h .planned) t (h .agrees) c rad p a b),
+            ap (eventsOf 5) (sym x) ∙ events-append 5 (es ++ fs) (entered c rad ∷ [])
+                ∙ (let u : eventsOf 5 (es ++ fs) + eventsOf 5 (entered c rad ∷ []) ≡ eventsOf 5 es + n = omega (arith, no-gone c rad, places-are) in u),
           );
           map-long = clear-disk-left (s .grid) c (add binary64 rad (s .r)) m .long;
           gone-long = long;

@@ -18,7 +18,6 @@ use Rattle.events.specs.Replay.{rimPoint}
 use Rattle.events.specs.Helix.{c80, rimBlocked, shrink, shrunk, radiusOf}
 use Rattle.passes.specs.Tried.{jobAt}
 use Rattle.helix.specs.Search.{leastOf, bareJob, radiusAt, radiusBy}
-use Rattle.helix.specs.declared.radius.Radius.{Radius}
 use Rattle.helix.specs.declared.radius.Radius.the-variants.{Of, Nothing}
 
 pub rim-is : (c : Vec2) (rad : Float) (k : ℕ) (f g : Float) (v w p : Vec2) → f ≡ float k → g ≡ float 36 → v ≡ fromAngle (div binary64 (mul binary64 tau f) g) → w ≡ scaled v rad → p ≡ sum c w → p ≡ rimPoint c rad k

@@ -1,26 +1,24 @@
 -- For the proofs of `search`: a place tried, and the places one after another. Assumes nothing.
-use mathlib.Core.Path.{_≡_, refl, sym, ap, _∙_, subst}
+use mathlib.Core.Path.{_≡_, sym, ap, _∙_, subst}
 use mathlib.Core.List.{List, [], _∷_, _++_}
-use mathlib.Core.Option.{Option, none, some}
-use Prim.Native.Nat.{ℕ, _+_, _-_, _*_, _/_, _%_, _≤_, _<_}
+use Prim.Native.Nat.{ℕ, _+_, _*_, _/_, _%_, _≤_, _<_}
 use native.Mathlib.Omega.{arith}
 use lib.ListN.{length}
 use lib.Ieee.{Float}
-use Rattle.loops.specs.Loop.{loop, Run, on, out, turn}
-use Rattle.loops.specs.Regions.{Fits, within}
+use Rattle.loops.specs.Loop.{Run, on, out, turn}
+use Rattle.loops.specs.Regions.{Fits}
 use Rattle.loops.specs.Frame.{Only}
 use Rattle.loops.proofs.LoopLaws.{Going, going-none, going-end, going-out, going-on, loop-keeps}
 use Rattle.loops.proofs.FrameLaws.{only-same, only-more, only-before, put-only}
 use Rattle.geom.specs.declared.vec2.Vec2.{Vec2}
 use Rattle.raster.specs.Grid.{centerOf}
 use Rattle.raster.specs.declared.grid.CellNo.{CellNo}
-use Rattle.setup.specs.Layout.{run, putRun, mapIn, allowedIn}
+use Rattle.setup.specs.Layout.{run, mapIn, allowedIn}
 use Rattle.setup.specs.Place.{cellsOf}
 use Rattle.setup.specs.declared.Setup.{Setup}
 use Rattle.setup.proofs.LayoutLaws.{run-put}
 use Rattle.setup.proofs.PartLaws.{run-long, run-same}
 use Rattle.workspace.specs.Standing.{reachIn, abandonedIn, abandonedPut}
-use Rattle.events.specs.Chunk.{Spot}
 use Rattle.events.specs.Events.{Event, givenUp}
 use Rattle.flood.specs.Place.{farthestOf}
 use Rattle.flood.specs.Flood.{floodOf}
@@ -48,12 +46,6 @@ module _ (s : Setup) (wall : List Float) (allowed reach : List ℕ) (pref : Floa
   abandon-long gone h = flood-at-long (farOf s wall allowed reach pref m gone) gone h
 
 module _ (s : Setup) (wall vs : List Float) (lens allowed reach : List ℕ) (pref : Float) (n : ℕ) (m : List ℕ) where
-  gone-long : (a : Attempt) (gone : List ℕ) → length gone ≡ n → length (goneBy s wall vs lens allowed reach pref a m gone) ≡ n
-  unfolding goneBy
-  gone-long NoPlace gone h = h
-  gone-long (Fitted c rad) gone h = h
-  gone-long (GivenUp c) gone h = abandon-long s wall allowed reach pref n m gone h
-
   abbrev SeekLong : Run Seeking Sought → Type 0
   SeekLong (on t) = length (t .gone) ≡ n
   SeekLong (out q) = length (q .gone) ≡ n

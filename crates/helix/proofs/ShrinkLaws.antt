@@ -1,12 +1,12 @@
 -- The shrinks of a helix's radius are never used up: for every job that the questions accept a radius that serves is found, or none is left, in 53 tests.
 -- Assumes nothing.
 use mathlib.Core.Path.{_≡_, refl, sym, ap, _∙_, subst}
-use mathlib.Core.Bool.{Bool, true, false, cond, not}
+use mathlib.Core.Bool.{Bool, true, false, cond}
 use mathlib.Core.List.{List}
 use mathlib.Core.Option.{Option, none, some}
-use Prim.Native.Nat.{ℕ, zero, suc, _+_, _≤_, _<_}
+use Prim.Native.Nat.{ℕ, zero, suc, _+_}
 use native.Mathlib.Omega.{arith}
-use lib.Ieee.{Float, fin, binary64, ofBits, round, sub, mul, lt, le, eq, isNan}
+use lib.Ieee.{Float, binary64, ofBits, round, sub, mul, lt, le, eq, isNan}
 use Rattle.loops.specs.Loop.{loop, Run, on, out, turn, any}
 use Rattle.loops.proofs.Cases.{by-cases, by-test, never}
 use Rattle.loops.proofs.LoopLaws.{loop-more, loop-both, out-stays}

@@ -19,7 +19,7 @@ use Rattle.cutting.specs.Listing.{needs, refusalOf}
 use Rattle.cutting.specs.Piece.{sta}
 use Rattle.cutting.specs.declared.piece.State.{State}
 use Rattle.workspace.specs.Standing.{abandonedIn, abandonedPut}
-use Rattle.helix.specs.Search.{Sought, seekOf}
+use Rattle.helix.specs.Search.{seekOf}
 use Rattle.helix.specs.declared.search.Found.{Found}
 use Rattle.helix.specs.declared.search.Found.the-variants.{Helix, Nothing}
 use Rattle.helix.specs.declared.enter.Entered.{Entered}

@@ -4,7 +4,7 @@ use native.Mathlib.Omega.{arith}
 use native.Mathlib.Nat.{mod-lt}
 use lib.Dec.{ltb}
 use borrow.Author.Tests.{ltb-true}
-use Rattle.flood.proofs.FloodLaws.{left-there, down-there, row-there, right-below, up-below, around-is}
+use Rattle.flood.proofs.FloodLaws.{left-there, down-there, row-there, around-is}
 use borrow.Author.Needs.{needs}
 use Rattle.flood.proofs.flood.push_around.Statement.{statement}
 use Rattle.flood.proofs.flood.push_around.Tie as tie
