@@ -1,0 +1,6 @@
+-- The laws of `entry`.
+pub mod RegionsLaws
+pub mod ShapeLaws
+pub mod FirstLaws
+pub mod RasterLaws
+pub mod JudgedLaws
