@@ -1,5 +1,4 @@
 pub mod WriteLaws
-pub mod RegionsLaws
 pub mod StockLaws
 pub mod ReachLaws
 pub mod StartLaws

@@ -21,7 +21,7 @@ use Rattle.setup.specs.Place.{cellsOf}
 use Rattle.setup.specs.declared.Setup.{Setup}
 use Rattle.setup.proofs.LayoutLaws.{run-put}
 use Rattle.links.specs.Path.{rimIn}
-use Rattle.start.specs.Regions.{pocketOf}
+use Rattle.entry.specs.Regions.{pocketOf}
 use Rattle.start.specs.Start.{insideOf, stockOf, wallsOf, allowedOf, reachOf, Started}
 use Rattle.start.specs.Steps.{Room, Stocked, Reached, Rimmed}
 use Rattle.start.proofs.WriteLaws.{zeros, zeroed-is}

@@ -26,7 +26,7 @@ use Rattle.field.proofs.RoundLaws.{writeAt, written-all}
 use Rattle.setup.specs.Layout.{run, putRun}
 use Rattle.setup.proofs.LayoutLaws.{run-put, run-other}
 use Rattle.setup.proofs.PartLaws.{put-run-long}
-use Rattle.start.specs.Regions.{pocketOf}
+use Rattle.entry.specs.Regions.{pocketOf}
 use Rattle.start.specs.Start.{insideOf, addRegion, addRegions, stockOf}
 use Rattle.start.specs.Steps.{stockByte, stockAt, Filled, Stocked}
 use Rattle.start.proofs.WriteLaws.{writeFrom, read-run, listed-self, zeros, zero-run}

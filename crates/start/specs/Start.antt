@@ -9,7 +9,7 @@ use lib.Dec.{eqb}
 use lib.Ieee.{Float, nan, binary64, add, sub, mul, lt, le}
 use Rattle.loops.specs.Loop.{loop}
 use Rattle.numbers.specs.Small.{half}
-use Rattle.geom.specs.Region.{Held, containsOf, vertexCount}
+use Rattle.geom.specs.Region.{containsOf}
 use Rattle.geom.specs.Segment.{anyWithin}
 use Rattle.geom.specs.declared.region.Region.{Region}
 use Rattle.distance.specs.Nearest.{listed}
@@ -23,13 +23,7 @@ use Rattle.setup.specs.Place.{cellsOf}
 use Rattle.setup.specs.declared.Setup.{Setup}
 use Rattle.links.specs.Path.{wallIn}
 use Rattle.workspace.specs.Standing.{reachIn, abandonedIn, Standing}
-use Rattle.start.specs.Regions.{regionAt, pocketOf}
-
--- all regions are lent, and none has more vertices than the scratch for a row's crossings has places
-pub record AllHeld (vs : List Float) (lens regions : List ℕ) : Type 0 where
-  pub some : 0 < length regions
-  pub held : (k : ℕ) → k < length regions → Held vs lens (regionAt lens regions k)
-  pub few : (k : ℕ) → k < length regions → vertexCount lens (regionAt lens regions k) ≤ 4096
+use Rattle.entry.specs.Regions.{regionAt, pocketOf}
 
 -- ---- stock
 

@@ -19,7 +19,7 @@ use Rattle.setup.specs.Place.{cellsOf}
 use Rattle.setup.specs.declared.Setup.{Setup}
 use Rattle.links.specs.Path.{wallIn, rimIn}
 use Rattle.workspace.specs.Standing.{reachIn, abandonedIn}
-use Rattle.start.specs.Regions.{pocketOf}
+use Rattle.entry.specs.Regions.{pocketOf}
 use Rattle.start.specs.Start.{insideOf, addRegions, stockOf, wallsOf, flag, clearAt, allowedOf, reachOf}
 
 -- the slices are lent for n cells

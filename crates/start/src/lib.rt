@@ -6,8 +6,8 @@ ghost use lib.ListN.{length};
 ghost use Rattle.numbers.specs.Bound.{Bounds};
 ghost use Rattle.raster.specs.Grid.{Sides};
 ghost use Rattle.setup.specs.Place.{cellsOf};
-ghost use Rattle.start.specs.Regions.{pocketOf};
-ghost use Rattle.start.specs.Start.{AllHeld, Started};
+ghost use Rattle.entry.specs.Regions.{pocketOf, AllHeld};
+ghost use Rattle.start.specs.Start.{Started};
 ghost use Rattle.start.specs.Steps.{Room};
 use setup::Setup;
 

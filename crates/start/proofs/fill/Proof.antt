@@ -3,7 +3,7 @@ use mathlib.Core.Path.{_∙_}
 use native.Mathlib.Omega.{arith}
 use borrow.Author.Needs.{needs}
 use Rattle.start.proofs.StartLaws.{started-is}
-use Rattle.start.proofs.RegionsLaws.{held-is}
+use Rattle.entry.proofs.RegionsLaws.{held-is}
 use Rattle.start.proofs.fill.Statement.{statement}
 use Rattle.start.proofs.fill.Tie as tie
 

@@ -10,9 +10,9 @@ use Rattle.geom.proofs.RegionLaws.{region}
 use Rattle.raster.specs.Fill.{fillRegion}
 use Rattle.geom.specs.declared.region.Region.{Region}
 use Rattle.raster.specs.declared.grid.Grid.{Grid}
-use Rattle.start.specs.Regions.{regionAt}
+use Rattle.entry.specs.Regions.{regionAt}
 use Rattle.start.specs.Start.{addRegion, addRegions}
-use Rattle.start.proofs.RegionsLaws.{region-is, next-at, next-first, second-first, held-is, few-is}
+use Rattle.entry.proofs.RegionsLaws.{region-is, next-at, next-first, second-first, held-is, few-is}
 use Rattle.start.proofs.StockLaws.{adding-long}
 use Rattle.start.proofs.stock.add_regions.Statement.{statement}
 use Rattle.start.proofs.stock.add_regions.Tie as tie

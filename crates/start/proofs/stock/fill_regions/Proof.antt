@@ -1,7 +1,7 @@
 -- `start::stock::fill_regions` meets its contract. Assumes nothing.
 use native.Mathlib.Omega.{arith}
 use borrow.Author.Needs.{needs}
-use Rattle.start.proofs.RegionsLaws.{held-is, few-is}
+use Rattle.entry.proofs.RegionsLaws.{held-is, few-is}
 use Rattle.start.proofs.StockLaws.{filled-whole, filled-list}
 use Rattle.start.proofs.stock.fill_regions.Statement.{statement}
 use Rattle.start.proofs.stock.fill_regions.Tie as tie
