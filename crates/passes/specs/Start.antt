@@ -27,12 +27,20 @@ nr k d = record { at = k; far = d }
 unfoldable pub nearer : Near → ℕ → Float → Near
 nearer b k d = cond (isGreater (totalOf (b .far) d)) (nr k d) b
 
-unfoldable pub nearStep : List Vec2 → Vec2 → ℕ → Near → Near
-nearStep pts p k b = nearer b k (distanceOf (getD pts k nowhere) p)
+-- number k, which is so far away, after those before it
+unfoldable pub nearStep : (ℕ → Float) → ℕ → Near → Near
+nearStep far k b = nearer b k (far k)
 
--- the point nearest to p, the first on a tie: (0..n).min_by(..)
+-- the nearest of n, the first on a tie: (0..n).min_by(..)
+unfoldable pub leastBy : (ℕ → Float) → ℕ → ℕ
+leastBy far n = loop (nearStep far) 1 n (nr 0 (far 0)) .at
+
+abbrev pub pointFar : List Vec2 → Vec2 → ℕ → Float
+pointFar pts p k = distanceOf (getD pts k nowhere) p
+
+-- the point nearest to p
 unfoldable pub nearestOf : List Vec2 → Vec2 → ℕ
-nearestOf pts p = loop (nearStep pts p) 1 (length pts) (nr 0 (distanceOf (getD pts 0 nowhere) p)) .at
+nearestOf pts p = leastBy (pointFar pts p) (length pts)
 
 -- pos.map_or(0, ..)
 unfoldable pub nearOf : List Vec2 → Place → ℕ

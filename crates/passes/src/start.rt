@@ -34,7 +34,7 @@ fn greater(o: Ordering) -> bool
 }
 
 // Of two the first, unless the second is nearer.
-fn nearer(b: Near, k: usize, d: f64) -> Near
+pub fn nearer(b: Near, k: usize, d: f64) -> Near
     ensures { λ r. ⌜ r ≡ nearer b k d ⌝ }
 {
     if greater(total_cmp(b.far, d)) {

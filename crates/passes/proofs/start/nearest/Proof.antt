@@ -3,7 +3,7 @@ use Prim.Native.Nat.{_-_}
 use native.Mathlib.Omega.{arith}
 use Rattle.loops.proofs.LoopLaws.{Going, going-none, going-more, going-end}
 use Rattle.geom.specs.Points.{points}
-use Rattle.passes.specs.Start.{nr, nearStep}
+use Rattle.passes.specs.Start.{nr, nearStep, pointFar}
 use Rattle.passes.proofs.SimulateLaws.{half-some}
 use Rattle.passes.proofs.StartLaws.{near-turn, near-end}
 use borrow.Author.Needs.{needs}
@@ -11,7 +11,7 @@ use Rattle.passes.proofs.start.nearest.Statement.{statement}
 use Rattle.passes.proofs.start.nearest.Tie as tie
 
 abbrev Inv-loop : tie.InvT-loop
-Inv-loop piece p n d best₀ k₀ best k = Going (nearStep (points 0 n piece) p) 1 n (nr 0 d) best k
+Inv-loop piece p n d best₀ k₀ best k = Going (nearStep (pointFar (points 0 n piece) p)) 1 n (nr 0 d) best k
 
 abbrev μ-loop : tie.MeasureT-loop
 μ-loop piece p n d best₀ k₀ best k = n - k

@@ -1,0 +1,3 @@
+-- For the proofs of the functions: `PlaceLaws`, `FloodLaws`.
+pub mod PlaceLaws
+pub mod FloodLaws

@@ -1,0 +1,5 @@
+pub mod ZeroLaws
+pub mod StandingLaws
+pub mod KindLaws
+pub mod ReportLaws
+pub mod CountedLaws

@@ -1,0 +1,4 @@
+-- What the contracts of `report` cite.
+pub mod Kinds
+pub mod Report
+pub mod Zero

@@ -1,0 +1,6 @@
+// The report of a finished plan (adaptive.rs of the Rust, `adaptive_clear`), and the lent slices zeroed
+// behind what is used of them.
+mod kinds;
+pub mod report;
+mod standing;
+pub mod zero;

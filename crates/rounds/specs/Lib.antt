@@ -1,0 +1,3 @@
+-- What the contracts of `rounds` cite.
+pub mod Next
+pub mod Round

@@ -1,0 +1,5 @@
+pub mod WriteLaws
+pub mod RegionsLaws
+pub mod StockLaws
+pub mod ReachLaws
+pub mod StartLaws
