@@ -1,6 +1,6 @@
 -- Question 13: what a yes says of the lent regions. Assumes nothing.
-use mathlib.Core.Path.{_≡_, refl, sym, ap, _∙_, subst}
-use mathlib.Core.Bool.{Bool, true, false, cond, not, _&&_, _||_}
+use mathlib.Core.Path.{_≡_, subst}
+use mathlib.Core.Bool.{Bool, true, false, _&&_}
 use mathlib.Core.List.{List}
 use Prim.Native.Nat.{ℕ, _+_, _*_, _≤_, _<_}
 use native.Mathlib.Omega.{arith}
@@ -12,7 +12,8 @@ use borrow.Author.Tests.{ltb-false, leb-true, eqb-true, le-leb, lt-leb, not-true
 use Rattle.loops.specs.Loop.{any}
 use Rattle.loops.proofs.LoopLaws.{any-each}
 use Rattle.loops.proofs.Cases.{both, neither}
-use Rattle.entry.specs.Regions.{sumTo, sumOf, AllHeld}
+use Rattle.geom.specs.Region.{sizeOf}
+use Rattle.entry.specs.Regions.{sumTo, sumOf, pocketOf, AllHeld}
 use Rattle.entry.specs.Questions.{outside, allFrom, allPlaced, mostRegions, countsFit, verticesFit, shapesFit}
 use Rattle.entry.proofs.RegionsLaws.{sum-most, all-held}
 
@@ -114,16 +115,31 @@ module _ (whole : Bool) (vs : List Float) (lens regions : List ℕ) where
     unfolding shapesFit
     shapes-placed e b B = rw (h, e) B
 
-pub shapes-held : (whole : Bool) (vs : List Float) (lens regions : List ℕ) → shapesFit whole vs lens regions ≡ true → AllHeld vs lens regions
-unfolding shapesFit verticesFit
-shapes-held whole vs lens regions h =
-    let a = both (countsFit whole lens regions) (verticesFit vs lens && allPlaced vs) h in
-    let b = both (verticesFit vs lens) (allPlaced vs) (a .1) in
-    let v = both (allFrom 3 4096 lens) (leb (sumOf lens) 4096 && eqb (2 * sumOf lens) (length vs)) (b .0) in
-    let w = both (leb (sumOf lens) 4096) (eqb (2 * sumOf lens) (length vs)) (v .1) in
-    let few : sumTo lens (length lens) ≤ 4096 = leb-true (sumOf lens) 4096 (w .0) in
-    let long : 2 * sumTo lens (length lens) ≡ length vs = eqb-true (2 * sumOf lens) (length vs) (w .1) in
-    let sum = all-loops whole lens regions (a .0) in
-    all-held vs lens regions (omega (arith, sum)) (omega (arith, some-regions whole lens regions (a .0)))
-    (λ k b. each-region whole lens regions (a .0) k b .0)
-    (omega (arith, long)) few
+-- a yes
+module _ (whole : Bool) (vs : List Float) (lens regions : List ℕ) (h : shapesFit whole vs lens regions ≡ true) where
+  shapes : (countsFit whole lens regions ≡ true) × (verticesFit vs lens && allPlaced vs ≡ true)
+  unfolding shapesFit
+  shapes = both (countsFit whole lens regions) (verticesFit vs lens && allPlaced vs) h
+
+  pub shapes-all : allPlaced vs ≡ true
+  shapes-all = both (verticesFit vs lens) (allPlaced vs) (shapes .1) .1
+
+  vertices : (allFrom 3 4096 lens ≡ true) × (leb (sumOf lens) 4096 && eqb (2 * sumOf lens) (length vs) ≡ true)
+  unfolding verticesFit
+  vertices = both (allFrom 3 4096 lens) (leb (sumOf lens) 4096 && eqb (2 * sumOf lens) (length vs)) (both (verticesFit vs lens) (allPlaced vs) (shapes .1) .0)
+
+  pub shapes-held : AllHeld vs lens regions
+  shapes-held =
+      let w = both (leb (sumOf lens) 4096) (eqb (2 * sumOf lens) (length vs)) (vertices .1) in
+      let few : sumTo lens (length lens) ≤ 4096 = leb-true (sumOf lens) 4096 (w .0) in
+      let long : 2 * sumTo lens (length lens) ≡ length vs = eqb-true (2 * sumOf lens) (length vs) (w .1) in
+      let sum = all-loops whole lens regions (shapes .0) in
+      all-held vs lens regions (omega (arith, sum)) (omega (arith, some-regions whole lens regions (shapes .0))) (λ k b. each-region whole lens regions (shapes .0) k b .0)
+      (omega (arith, long)) few
+
+  -- the pocket's outer loop has vertices
+  pub outer-some : 0 < sizeOf lens (pocketOf lens regions) 0
+  outer-some =
+      let held = shapes-held .held 0 (shapes-held .some) in
+      let at = pocketOf lens regions .first in
+      omega (arith, all-each 3 4096 lens (vertices .0) (at + 0) (omega (arith, held .sizes, held .some)) .0)

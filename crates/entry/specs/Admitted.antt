@@ -3,13 +3,13 @@ use mathlib.Core.Path.{_≡_}
 use mathlib.Core.Bool.{Bool, true}
 use mathlib.Core.List.{List}
 use Prim.Native.Nat.{ℕ, _*_}
-use lib.Ieee.{Float, lt, le}
+use lib.Ieee.{Float, binary64, div, lt, le}
 use Rattle.numbers.specs.Small.{f1}
 use Rattle.raster.specs.Grid.{Sides}
 use Rattle.raster.specs.declared.grid.Grid.{Grid}
 use Rattle.setup.specs.Layout.{Lent}
 use Rattle.entry.specs.Regions.{AllHeld}
-use Rattle.entry.specs.Questions.{c01, f100, f180, absentOr, atMost1000, aboveZero, jobGrid}
+use Rattle.entry.specs.Questions.{c01, f100, f180, f1000, aboveZero, absentOr, atMost1000, cellOf, jobGrid}
 use Rattle.entry.specs.declared.params.AdaptiveParams.{AdaptiveParams}
 use Rattle.entry.specs.declared.judge.Lengths.{Lengths}
 
@@ -24,6 +24,9 @@ pub record Admitted (p : AdaptiveParams) (whole : Bool) (vs : List Float) (lens 
   -- the diameter: 0.1 to 100
   pub thick : le c01 (p .«tool_diameter») ≡ true
   pub thin : le (p .«tool_diameter») f100 ≡ true
+  -- the cell: a number above 0, at least a thousandth of the diameter
+  pub cell : aboveZero (cellOf p) ≡ true
+  pub coarse : le (div binary64 (p .«tool_diameter») f1000) (cellOf p) ≡ true
   -- the helix radius, where given: above 0, at most 1,000
   pub turning : absentOr aboveZero (p .«helix_radius») ≡ true
   pub short : absentOr atMost1000 (p .«helix_radius») ≡ true

@@ -1,6 +1,6 @@
 -- The questions of document 01 on a job, 1 to 15, in its words and order; the first no is the answer. Definitions only.
 use Prim.Native.Nat.{ℕ, _+_, _*_}
-use mathlib.Core.Bool.{Bool, true, false, cond, not, _&&_, _||_}
+use mathlib.Core.Bool.{Bool, true, cond, not, _&&_, _||_}
 use mathlib.Core.List.{List, [], _∷_, _++_}
 use lib.ListN.{length, getD}
 use lib.Dec.{eqb, ltb, leb}
@@ -14,7 +14,6 @@ use Rattle.geom.specs.declared.region.Corners.{Corners}
 use Rattle.raster.specs.Grid.{gridOf, newGrid}
 use Rattle.raster.specs.declared.grid.Grid.{Grid}
 use Rattle.raster.specs.declared.grid.Raster.{Raster}
-use Rattle.raster.specs.declared.grid.Raster.the-variants.{Unfit, TooLarge, Of}
 use Rattle.entry.specs.Regions.{sumOf, pocketOf}
 use Rattle.entry.specs.declared.params.Setting.{Setting}
 use Rattle.entry.specs.declared.params.Setting.the-variants.{Absent, Given}
@@ -158,7 +157,7 @@ unfoldable pub allPlaced : List Float → Bool
 allPlaced vs = not (any (astray vs) 0 (length vs))
 
 -- 13. Each loop 3 or more vertices, at most 64 islands a region, 16 stock regions, 4,096 vertices in all, loop lengths that add up exactly to the vertices
--- lent, coordinates finite and within ±10,000? Without a stock list there is the pocket alone.
+-- lent, coordinates finite and within ±10,000? Without a stock list there is the pocket alone. (A loop of more than 4,096 vertices is too many by itself.)
 unfoldable pub mostRegions : Bool → ℕ
 mostRegions whole = cond whole 1 17
 
@@ -178,21 +177,19 @@ shapesFit whole vs lens regions = countsFit whole lens regions && (verticesFit v
 abbrev pub cornersOf : List Float → List ℕ → List ℕ → Corners
 cornersOf vs lens regions = boundsOf vs lens (pocketOf lens regions)
 
-unfoldable pub rasterOf : AdaptiveParams → List Float → List ℕ → List ℕ → Raster
-rasterOf p vs lens regions = let c = cornersOf vs lens regions in newGrid (c .lo) (c .hi) (cellOf p) (mul binary64 f2 (cellOf p))
-
--- 14. Raster sides at most 4,096, cells N at most 1,048,576?
-unfoldable pub isGrid : Raster → Bool
-isGrid Unfit = false
-isGrid TooLarge = false
-isGrid (Of g) = true
-
-unfoldable pub rasterFit : AdaptiveParams → List Float → List ℕ → List ℕ → Bool
-rasterFit p vs lens regions = isGrid (rasterOf p vs lens regions)
-
--- that raster
 unfoldable pub jobGrid : AdaptiveParams → List Float → List ℕ → List ℕ → Grid
 jobGrid p vs lens regions = let c = cornersOf vs lens regions in gridOf (c .lo) (c .hi) (cellOf p) (mul binary64 f2 (cellOf p))
+
+-- 14. Raster sides at most 4,096, cells N at most 1,048,576?
+abbrev pub small : Grid → Bool
+small g = leb (g .nx) 4096 && (leb (g .ny) 4096 && leb (g .ny * g .nx) 1048576)
+
+unfoldable pub rasterFit : AdaptiveParams → List Float → List ℕ → List ℕ → Bool
+rasterFit p vs lens regions = small (jobGrid p vs lens regions)
+
+-- what `Grid::new` answers: the raster, or that it is too large; its other refusals are never met after 1 to 13 (proofs/FitLaws.antt)
+unfoldable pub rasterOf : AdaptiveParams → List Float → List ℕ → List ℕ → Raster
+rasterOf p vs lens regions = let c = cornersOf vs lens regions in newGrid (c .lo) (c .hi) (cellOf p) (mul binary64 f2 (cellOf p))
 
 -- ---- what is lent
 

@@ -1,13 +1,13 @@
 // The first no of questions 1 to 15, or the raster of the job.
 ghost use mathlib.Core.Path.{_≡_};
-ghost use mathlib.Core.Bool.{cond};
+ghost use mathlib.Core.Bool.{true, cond};
 ghost use Prim.Native.Nat.{_<_};
 ghost use lib.ListN.{length};
 ghost use Rattle.geom.specs.Region.{Held};
 ghost use Rattle.raster.specs.Grid.{Sides};
 ghost use Rattle.entry.specs.Regions.{pocketOf};
 ghost use Rattle.entry.specs.declared.judge.Judged.the-variants.{Refused, Fit};
-ghost use Rattle.entry.specs.Questions.{rasterOf, jobGrid, lentFit, firstNo, lastThree, judgedBy, judgedOf};
+ghost use Rattle.entry.specs.Questions.{resolutionFit, rangesFit, rasterOf, jobGrid, lentFit, firstNo, lastThree, judgedBy, judgedOf};
 use super::params::AdaptiveParams;
 use super::params::cell_of;
 use super::questions::first_six;
@@ -43,7 +43,7 @@ pub fn pocket_of(lens: &[u32], regions: &[u32]) -> Region
     }
 }
 
-// Question 14: the raster over the pocket, with a margin of two cells.
+// For question 14: the raster over the pocket, with a margin of two cells.
 fn raster_of(p: AdaptiveParams, vs: &[f64], lens: &[u32], regions: &[u32]) -> Raster
     requires { ⌜ 0 < length (now regions) ⌝ }
     requires { ⌜ Held (now vs) (now lens) (pocketOf (now lens) (now regions)) ⌝ }
@@ -77,7 +77,7 @@ fn judge_lent(g: Grid, l: Lengths) -> Judged
     Judged::Refused(15)
 }
 
-// Questions 13 to 15.
+// Questions 13 to 15. After 11 to 13 the raster is never unfit, only too large.
 fn judge_shapes(
     p: AdaptiveParams,
     whole: bool,
@@ -86,6 +86,8 @@ fn judge_shapes(
     regions: &[u32],
     l: Lengths,
 ) -> Judged
+    requires { ⌜ resolutionFit p ≡ true ⌝ }
+    requires { ⌜ rangesFit p ≡ true ⌝ }
     ensures { λ r. ⌜ r ≡ judgedBy (firstNo 13 (lastThree p whole (now (vs .entry)) (now (lens .entry)) (now (regions .entry)) l)) (jobGrid p (now (vs .entry)) (now (lens .entry)) (now (regions .entry))) ⌝ }
 {
     if !shapes_fit(whole, vs, lens, regions) {

@@ -5,7 +5,8 @@ use borrow.Author.Tests.{not-true, not-false}
 use Rattle.raster.specs.declared.grid.Grid.{Grid}
 use Rattle.entry.specs.Questions.{lentFit}
 use Rattle.entry.proofs.FirstLaws.{is-13, is-14, is-last}
-use Rattle.entry.proofs.RasterLaws.{raster-sides, raster-grid, raster-yes, unfit-no, large-no}
+use Rattle.entry.proofs.FitLaws.{job-fit}
+use Rattle.entry.proofs.RasterLaws.{raster-sides, raster-grid, raster-yes, raster-no, raster-unmet}
 use Rattle.entry.proofs.ShapeLaws.{shapes-held}
 use Rattle.entry.proofs.judge.judge_shapes.Statement.{statement}
 use Rattle.entry.proofs.judge.judge_shapes.Tie as tie
@@ -51,13 +52,16 @@ returns-3 : tie.Need-returns-3
 returns-3 c =
     let r = c .before .before in
     let s = r .before .before .before .before .before .before .args in
-    is-14 _ _ _ _ (sym (r .before .before .shapes-fit .ensures) ∙ not-false _ (r .before .if1 .left)) (large-no (s .p) (s .vs .now) (s .lens .now) (s .regions .now) (sym (r .raster-of .ensures) ∙ c .enum-told .given .1))
+    is-14 _ _ _ _ (sym (r .before .before .shapes-fit .ensures) ∙ not-false _ (r .before .if1 .left)) (raster-no (s .p) (s .vs .now) (s .lens .now) (s .regions .now) (sym (r .raster-of .ensures) ∙ c .enum-told .given .1))
 
 returns-4 : tie.Need-returns-4
 returns-4 c =
     let r = c .before .before in
-    let s = r .before .before .before .before .before .before .args in
-    is-14 _ _ _ _ (sym (r .before .before .shapes-fit .ensures) ∙ not-false _ (r .before .if1 .left)) (unfit-no (s .p) (s .vs .now) (s .lens .now) (s .regions .now) (sym (r .raster-of .ensures) ∙ c .enum-told2 .given .1))
+    let start = r .before .before .before .before .before .before in
+    let s = start .args in
+    let shapes = sym (r .before .before .shapes-fit .ensures) ∙ not-false _ (r .before .if1 .left) in
+    raster-unmet (s .p) (s .vs .now) (s .lens .now) (s .regions .now) (sym (r .raster-of .ensures) ∙ c .enum-told2 .given .1)
+    (job-fit (s .p) (s .whole) (s .vs .now) (s .lens .now) (s .regions .now) (start .pre .0) (start .pre .1) shapes)
 
 pub judge-shapes-spec : {M : Type 1} → statement M
 judge-shapes-spec =

@@ -1,6 +1,6 @@
 -- `entry::questions::next_six` meets its contract. Assumes nothing.
 use mathlib.Core.Path.{_≡_, sym, _∙_}
-use mathlib.Core.Bool.{true, false}
+use mathlib.Core.Bool.{true}
 use borrow.Author.Needs.{needs}
 use borrow.Author.Tests.{not-true, not-false}
 use Rattle.entry.specs.Questions.{feedsFit, rampFit, helixFit, thinningFit, resolutionFit, rangesFit, firstNo}

@@ -1,5 +1,5 @@
 -- `entry::shapes::all_from` meets its contract. Assumes nothing.
-use mathlib.Core.Path.{_≡_, ap}
+use mathlib.Core.Path.{ap}
 use mathlib.Core.Bool.{false, not}
 use Prim.Native.Nat.{_-_}
 use native.Mathlib.Omega.{arith}

@@ -1,8 +1,7 @@
 -- `entry::shapes::all_placed` meets its contract. Assumes nothing.
-use mathlib.Core.Path.{_≡_, sym, ap, _∙_}
+use mathlib.Core.Path.{sym, ap, _∙_}
 use mathlib.Core.Bool.{false, not}
 use Prim.Native.Nat.{_-_}
-use native.Mathlib.Omega.{arith}
 use Rattle.loops.specs.Loop.{orAt}
 use Rattle.loops.proofs.LoopLaws.{Going, going-none, any-on, any-out, any-none}
 use Rattle.entry.specs.Questions.{astray, allPlaced}
