@@ -1,0 +1,2 @@
+-- What the contracts of `plan` cite: the parts of a round.
+pub mod Parts
