@@ -1,0 +1,3 @@
+-- For the proofs of the functions: `PartsLaws`, `TurnsLaws`.
+pub mod PartsLaws
+pub mod TurnsLaws

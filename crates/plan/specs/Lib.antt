@@ -1,0 +1,3 @@
+-- What the contracts of `plan` cite: the parts of a round, and the rounds.
+pub mod Parts
+pub mod Rounds
