@@ -424,6 +424,40 @@ module _ (g : Ground) where
   unfolding roundOf
   round-gives p h k l = onward-gives (restOf g) k (λ q j z. rest-gives q j k z) (piecesPart g p h .left .slices) (piecesPart g p h .left .answer) (piecesPart g p h .events) (pieces-part-gives p h k l)
 
+-- ---- a round ends: no part is left to go on to
+
+abbrev pub Over : Step → Type 0
+Over (Next p) = ⊥
+Over (Again p) = Unit {0}
+Over (Done p) = Unit {0}
+Over (Refused n) = Unit {0}
+
+onward-over : (part : Progress → Slices → WithEvents) → ((p : Progress) (h : Slices) → Over (part p h .left .answer)) → (h : Slices) (a : Step) (es : List Event) → Over (onward part h a es .left .answer)
+unfolding onward
+onward-over part f h (Next p) es = f p h
+onward-over part f h (Again p) es = tt
+onward-over part f h (Done p) es = tt
+onward-over part f h (Refused n) es = tt
+
+entered-over : (p : Progress) (e : Entered) → Over (afterHelix p e)
+unfolding afterHelix
+entered-over p (Bored t n) = tt
+entered-over p (NoRoom n) = tt
+entered-over p (Barred n) = tt
+
+module _ (g : Ground) where
+  helix-over : (p : Progress) (h : Slices) → Over (helixPart g p h .left .answer)
+  unfolding helixPart
+  helix-over p h = entered-over p (helixEntered g p h .left .answer)
+
+  rest-over : (p : Progress) (h : Slices) → Over (restOf g p h .left .answer)
+  unfolding restOf
+  rest-over p h = onward-over (helixPart g) helix-over (ringPart g p h .left .slices) (ringPart g p h .left .answer) (ringPart g p h .events)
+
+  pub round-over : (p : Progress) (h : Slices) → Over (roundOf g p h .left .answer)
+  unfolding roundOf
+  round-over p h = onward-over (restOf g) rest-over (piecesPart g p h .left .slices) (piecesPart g p h .left .answer) (piecesPart g p h .events)
+
 -- ---- the ring, then the helix; the curves, then the rest
 
 module _ (s : Setup) (vs : List Float) (lens : List ℕ) (pref : Float) (p : Progress) (b u : List ℕ) (f w o : List Float) (rows : List ℕ) (H : Standing s vs lens b u w) (F : 2 * cellsOf s ≤ length f)
