@@ -203,12 +203,12 @@ helix-answered s wall vs lens allowed reach pref t m gone rows o =
 
 -- ---- the parts in the workspace
 
-module _ (s : Setup) (vs : List Float) (lens : List ℕ) (pref : Float) (p : Progress) (b u : List ℕ) (f w o : List Float) (rows : List ℕ) (H : Standing s vs lens b u w) (L : Listed rows o (p .state) 0) where
+module _ (s : Setup) (vs : List Float) (lens : List ℕ) (p : Progress) (b u : List ℕ) (f w o : List Float) (rows : List ℕ) (H : Standing s vs lens b u w) (L : Listed rows o (p .state) 0) where
   abbrev n : ℕ
   n = cellsOf s
 
-  abbrev g : Ground
-  g = groundIn s vs lens pref b w
+  abbrev g : Float → Ground
+  g pref = groundIn s vs lens pref b w
 
   abbrev h : Slices
   h = slicesIn (cellsOf s) b u f rows o
@@ -231,19 +231,19 @@ module _ (s : Setup) (vs : List Float) (lens : List ℕ) (pref : Float) (p : Pro
         (E : cutsIn n b₂ (logIn n u₂) rows₂ o₂ c ≡ cutPiecesOf s (wallIn s w₁) vs lens (allowedIn n b₁) (piecesIn n (q .pieces) u₁ w₁) t (mapIn n b₁) (dirtyIn n b₁) rows (logIn n u₁) o .left)
         (K : CellsKept n b₁ b₂) (A : abandonedIn n b₂ ≡ abandonedIn n b₁) (U : length u₂ ≡ length u₁) (O : Only (guideFrom n) (pathEnd n) w₁ w₂) (M : Lists rows rows₂ o o₂ c)
         (r : Step) (R : r ≡ afterPieces p c) where
-      spent : t ≡ spending (workOf s (fieldNow g p h .sampled)) (p .state)
-      spent = S ∙ ap (λ (x : ℕ). spending x (p .state)) (T .work)
+      spent : (pref : Float) → t ≡ spending (workOf s (fieldNow (g pref) p h .sampled)) (p .state)
+      spent pref = S ∙ ap (λ (x : ℕ). spending x (p .state)) (T .work)
 
-      cut-is : cutsIn n b₂ (logIn n u₂) rows₂ o₂ c ≡ piecesCut g p h .left
-      cut-is = E ∙ (λ i. cutPiecesOf s (wall-kept s vs lens b u w H w₁ (T .walls) i) vs lens (T .cells .allowed i) (T .lies .is i) (spent i) (T .map i) (T .dirty i) rows (T .log i) o .left)
+      cut-is : (pref : Float) → cutsIn n b₂ (logIn n u₂) rows₂ o₂ c ≡ piecesCut (g pref) p h .left
+      cut-is pref = E ∙ (λ i. cutPiecesOf s (wall-kept s vs lens b u w H w₁ (T .walls) i) vs lens (T .cells .allowed i) (T .lies .is i) (spent pref i) (T .map i) (T .dirty i) rows (T .log i) o .left)
 
-      pieces-left : lf (slicesIn n b₂ u₂ f₁ rows₂ o₂) r ≡ piecesPart g p h .left
+      pieces-left : (pref : Float) → lf (slicesIn n b₂ u₂ f₁ rows₂ o₂) r ≡ piecesPart (g pref) p h .left
       unfolding piecesPart
-      pieces-left =
+      pieces-left pref =
           ap (lf (slicesIn n b₂ u₂ f₁ rows₂ o₂)) R
-          ∙ (λ i. lf (slices (cut-is i .map) (cut-is i .dirty) ((A ∙ T .abandoned) i) (cut-is i .log) (T .field i) (cut-is i .rows) (cut-is i .out)) (afterPieces p (cut-is i .answer)))
+          ∙ (λ i. lf (slices (cut-is pref i .map) (cut-is pref i .dirty) ((A ∙ T .abandoned) i) (cut-is pref i .log) (T .field i) (cut-is pref i .rows) (cut-is pref i .out)) (afterPieces p (cut-is pref i .answer)))
 
-      pub pieces-part : (lf (slicesIn n b₂ u₂ f₁ rows₂ o₂) r ≡ piecesPart g p h .left) × Kept n b u rows f w o b₂ u₂ rows₂ f₁ w₂ o₂ r
+      pub pieces-part : ((pref : Float) → lf (slicesIn n b₂ u₂ f₁ rows₂ o₂) r ≡ piecesPart (g pref) p h .left) × Kept n b u rows f w o b₂ u₂ rows₂ f₁ w₂ o₂ r
       pieces-part = (
         pieces-left,
         record {
@@ -258,19 +258,19 @@ module _ (s : Setup) (vs : List Float) (lens : List ℕ) (pref : Float) (p : Pro
       )
 
   -- the ring
-  abbrev ringWhole : WithEvents
-  ringWhole =
-      let c = ringCut g p h in
+  abbrev ringWhole : Float → WithEvents
+  ringWhole pref =
+      let c = ringCut (g pref) p h in
       let l = c .left in
       withEvents (slices (l .map) (l .dirty) (h .gone) (l .log) (h .field) (l .rows) (l .out)) (afterRing p (l .answer)) (c .events)
 
-  ring-by : (x : Bool) → p .cleanup ≡ x → ringPart g p h ≡ cond x (withEvents h (Next p) []) ringWhole
+  ring-by : (pref : Float) (x : Bool) → p .cleanup ≡ x → ringPart (g pref) p h ≡ cond x (withEvents h (Next p) []) (ringWhole pref)
   unfolding ringPart
-  ring-by x e = ap (λ (z : Bool). cond z (withEvents h (Next p) []) ringWhole) e
+  ring-by pref x e = ap (λ (z : Bool). cond z (withEvents h (Next p) []) (ringWhole pref)) e
 
-  pub ring-done : p .cleanup ≡ true → (lf h (Next p) ≡ ringPart g p h .left) × Kept n b u rows f w o b u rows f w o (Next p)
+  pub ring-done : p .cleanup ≡ true → ((pref : Float) → lf h (Next p) ≡ ringPart (g pref) p h .left) × Kept n b u rows f w o b u rows f w o (Next p)
   ring-done e = (
-    sym (ap (λ (q : WithEvents). q .left) (ring-by true e)),
+    λ pref. sym (ap (λ (q : WithEvents). q .left) (ring-by pref true e)),
     record { cells = cells-same n b; words-long = refl; singles-long = refl; walls = walls-same s vs lens b u w H; rows-long = refl; out-long = refl; listed = L },
   )
 
@@ -285,14 +285,14 @@ module _ (s : Setup) (vs : List Float) (lens : List ℕ) (pref : Float) (p : Pro
         (E : cutsIn n b₂ (logIn n u₂) rows₂ o₂ c ≡ cutRingOf s (wallIn s w₁) vs lens (allowedIn n b₁) (piecesIn n q u₁ w₁) (p .state) (mapIn n b₁) (dirtyIn n b₁) rows (logIn n u₁) o .left)
         (K : CellsKept n b₁ b₂) (A : abandonedIn n b₂ ≡ abandonedIn n b₁) (U : length u₂ ≡ length u₁) (O : Only (guideFrom n) (pathEnd n) w₁ w₂) (M : Lists rows rows₂ o o₂ c)
         (r : Step) (R : r ≡ afterRing p c) (no : p .cleanup ≡ false) where
-      ring-is : cutsIn n b₂ (logIn n u₂) rows₂ o₂ c ≡ ringCut g p h .left
-      ring-is = E ∙ (λ i. cutRingOf s (wall-kept s vs lens b u w H w₁ (T .walls) i) vs lens (T .cells .allowed i) (T .lies .is i) (p .state) (T .map i) (T .dirty i) rows (T .log i) o .left)
+      ring-is : (pref : Float) → cutsIn n b₂ (logIn n u₂) rows₂ o₂ c ≡ ringCut (g pref) p h .left
+      ring-is pref = E ∙ (λ i. cutRingOf s (wall-kept s vs lens b u w H w₁ (T .walls) i) vs lens (T .cells .allowed i) (T .lies .is i) (p .state) (T .map i) (T .dirty i) rows (T .log i) o .left)
 
-      pub ring-part : (lf (slicesIn n b₂ u₂ f₁ rows₂ o₂) r ≡ ringPart g p h .left) × Kept n b u rows f w o b₂ u₂ rows₂ f₁ w₂ o₂ r
+      pub ring-part : ((pref : Float) → lf (slicesIn n b₂ u₂ f₁ rows₂ o₂) r ≡ ringPart (g pref) p h .left) × Kept n b u rows f w o b₂ u₂ rows₂ f₁ w₂ o₂ r
       ring-part = (
-        ap (lf (slicesIn n b₂ u₂ f₁ rows₂ o₂)) R
-            ∙ (λ i. lf (slices (ring-is i .map) (ring-is i .dirty) ((A ∙ T .abandoned) i) (ring-is i .log) (T .field i) (ring-is i .rows) (ring-is i .out)) (afterRing p (ring-is i .answer)))
-            ∙ sym (ap (λ (q : WithEvents). q .left) (ring-by false no)),
+        λ pref. ap (lf (slicesIn n b₂ u₂ f₁ rows₂ o₂)) R
+            ∙ (λ i. lf (slices (ring-is pref i .map) (ring-is pref i .dirty) ((A ∙ T .abandoned) i) (ring-is pref i .log) (T .field i) (ring-is pref i .rows) (ring-is pref i .out)) (afterRing p (ring-is pref i .answer)))
+            ∙ sym (ap (λ (q : WithEvents). q .left) (ring-by pref false no)),
         record {
           cells = cells-more n b b₁ b₂ (T .cells) K;
           words-long = U ∙ T .words-long;
@@ -305,9 +305,9 @@ module _ (s : Setup) (vs : List Float) (lens : List ℕ) (pref : Float) (p : Pro
       )
 
   -- the helix
-  module _ (b₂ u₂ : List ℕ) (o₂ : List Float) (rows₂ : List ℕ) (e : Entered)
+  module _ (pref : Float) (b₂ u₂ : List ℕ) (o₂ : List Float) (rows₂ : List ℕ) (e : Entered)
       (E : leftIn n b₂ rows₂ o₂ e ≡ helixOf s (wallIn s w) vs lens (allowedIn n b) (reachIn n b) pref (p .state) (mapIn n b) (abandonedIn n b) rows o .left) where
-    answered : Answered rows o (helixEntered g p h)
+    answered : Answered rows o (helixEntered (g pref) p h)
     answered = helix-answered s (wallIn s w) vs lens (allowedIn n b) (reachIn n b) pref (p .state) (mapIn n b) (abandonedIn n b) rows o
 
     pub helix-asks : p .given ≤ 900000 → p .given + placesOf e ≤ 1000000
@@ -322,13 +322,13 @@ module _ (s : Setup) (vs : List Float) (lens : List ℕ) (pref : Float) (p : Pro
       log-kept : logIn n u₂ ≡ logIn n u
       log-kept = only-after (heapFrom n) (segmentsFrom n) u heap-fits u₂ O (24 * n) (24 * n + n) (omega arith)
 
-      helix-left : lf (slicesIn n b₂ u₂ f rows₂ o₂) r ≡ helixPart g p h .left
+      helix-left : lf (slicesIn n b₂ u₂ f rows₂ o₂) r ≡ helixPart (g pref) p h .left
       unfolding helixPart
       helix-left =
           ap (lf (slicesIn n b₂ u₂ f rows₂ o₂)) R
           ∙ (λ i. lf (slices (E i .map) (settled-dirty n b (H .bytes) b₂ S i) (E i .gone) (log-kept i) (run 0 n f) (E i .rows) (E i .out)) (afterHelix p (E i .answer)))
 
-      pub helix-part : (lf (slicesIn n b₂ u₂ f rows₂ o₂) r ≡ helixPart g p h .left) × Kept n b u rows f w o b₂ u₂ rows₂ f w o₂ r
+      pub helix-part : (lf (slicesIn n b₂ u₂ f rows₂ o₂) r ≡ helixPart (g pref) p h .left) × Kept n b u rows f w o b₂ u₂ rows₂ f w o₂ r
       helix-part = (
         helix-left,
         record {
@@ -423,6 +423,40 @@ module _ (g : Ground) where
   pub round-gives : (p : Progress) (h : Slices) (k : ℕ) → p .given ≤ k → Gives (k + 64) (roundOf g p h .left .answer)
   unfolding roundOf
   round-gives p h k l = onward-gives (restOf g) k (λ q j z. rest-gives q j k z) (piecesPart g p h .left .slices) (piecesPart g p h .left .answer) (piecesPart g p h .events) (pieces-part-gives p h k l)
+
+-- ---- a round ends: no part is left to go on to
+
+abbrev pub Over : Step → Type 0
+Over (Next p) = ⊥
+Over (Again p) = Unit {0}
+Over (Done p) = Unit {0}
+Over (Refused n) = Unit {0}
+
+onward-over : (part : Progress → Slices → WithEvents) → ((p : Progress) (h : Slices) → Over (part p h .left .answer)) → (h : Slices) (a : Step) (es : List Event) → Over (onward part h a es .left .answer)
+unfolding onward
+onward-over part f h (Next p) es = f p h
+onward-over part f h (Again p) es = tt
+onward-over part f h (Done p) es = tt
+onward-over part f h (Refused n) es = tt
+
+entered-over : (p : Progress) (e : Entered) → Over (afterHelix p e)
+unfolding afterHelix
+entered-over p (Bored t n) = tt
+entered-over p (NoRoom n) = tt
+entered-over p (Barred n) = tt
+
+module _ (g : Ground) where
+  helix-over : (p : Progress) (h : Slices) → Over (helixPart g p h .left .answer)
+  unfolding helixPart
+  helix-over p h = entered-over p (helixEntered g p h .left .answer)
+
+  rest-over : (p : Progress) (h : Slices) → Over (restOf g p h .left .answer)
+  unfolding restOf
+  rest-over p h = onward-over (helixPart g) helix-over (ringPart g p h .left .slices) (ringPart g p h .left .answer) (ringPart g p h .events)
+
+  pub round-over : (p : Progress) (h : Slices) → Over (roundOf g p h .left .answer)
+  unfolding roundOf
+  round-over p h = onward-over (restOf g) rest-over (piecesPart g p h .left .slices) (piecesPart g p h .left .answer) (piecesPart g p h .events)
 
 -- ---- the ring, then the helix; the curves, then the rest
 

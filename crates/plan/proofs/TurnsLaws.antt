@@ -17,7 +17,7 @@ use Rattle.cutting.specs.Piece.{Listed}
 use Rattle.workspace.specs.Standing.{Standing}
 use Rattle.workspace.proofs.StandingLaws.{walls-same, cells-same}
 use Rattle.plan.specs.Parts.{Ground, Slices, Left, lf, WithEvents, roundOf, slicesIn, groundIn, ListedAfter, Kept}
-use Rattle.plan.specs.Rounds.{mostRounds, mostWork, Turn, tn, End, el, ended, afterRound, turnOf, endOf, firstProgress, roundsFrom, planOf, ListedEnd, EndKept}
+use Rattle.plan.specs.Rounds.{mostWork, Turn, tn, End, el, ended, afterRound, turnOf, endOf, firstProgress, roundsFrom, planOf, ListedEnd, EndKept}
 use Rattle.plan.specs.declared.parts.Progress.{Progress}
 use Rattle.plan.specs.declared.parts.Step.{Step}
 use Rattle.plan.specs.declared.parts.Step.the-variants.{Next, Again, Done, Refused}

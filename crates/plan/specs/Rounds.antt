@@ -49,7 +49,7 @@ el h a = record { slices = h; answer = a }
 abbrev pub ended : Slices → Ended → List Event → End
 ended h a es = record { left = el h a; events = es }
 
--- a round ends with a pass or an entry, and another begins; or the plan ends. The first case is not met: a round's last part is the helix
+-- a round ends with a pass or an entry, and another begins; or the plan ends. The first case is not met (`round-over`): a round's last part is the helix
 unfoldable pub afterRound : Slices → Step → List Event → Run Turn End
 afterRound h (Next p) es = out (ended h (Finished p false) es)
 afterRound h (Again p) es = on (tn p h es)

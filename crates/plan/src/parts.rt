@@ -1,6 +1,7 @@
 // A round in three parts: the curves of the field cut, the ring cut, an entry by a helix.
 ghost use mathlib.Core.Path.{_≡_};
 ghost use Prim.Native.Nat.{_+_, _*_, _≤_};
+ghost use lib.Ieee.{Float};
 ghost use lib.ListN.{length};
 ghost use Rattle.setup.specs.Place.{cellsOf};
 ghost use Rattle.cutting.specs.Piece.{spending, Listed};
@@ -123,7 +124,6 @@ fn cut_pieces(
     p: Progress,
     vs: &[f64],
     lens: &[u32],
-    pref: f64,
     b: &mut [u8],
     u: &mut [u32],
     f: &mut [f32],
@@ -134,7 +134,7 @@ fn cut_pieces(
     requires { ⌜ Standing s (now vs) (now lens) (now b) (now u) (now w) ⌝ }
     requires { ⌜ 2 * cellsOf s ≤ length (now f) ⌝ }
     requires { ⌜ Listed (now rows) (now triples) (p .state) 0 ⌝ }
-    ensures { λ r. ⌜ lf (slicesIn (cellsOf s) (now (b .exit)) (now (u .exit)) (now (f .exit)) (now (rows .exit)) (now (triples .exit))) r ≡ piecesPart (groundIn s (now (vs .entry)) (now (lens .entry)) pref (now (b .entry)) (now (w .entry))) p (slicesIn (cellsOf s) (now (b .entry)) (now (u .entry)) (now (f .entry)) (now (rows .entry)) (now (triples .entry))) .left ⌝ }
+    ensures { λ r. ⌜ ((pref : Float) → lf (slicesIn (cellsOf s) (now (b .exit)) (now (u .exit)) (now (f .exit)) (now (rows .exit)) (now (triples .exit))) r ≡ piecesPart (groundIn s (now (vs .entry)) (now (lens .entry)) pref (now (b .entry)) (now (w .entry))) p (slicesIn (cellsOf s) (now (b .entry)) (now (u .entry)) (now (f .entry)) (now (rows .entry)) (now (triples .entry))) .left) ⌝ }
     ensures { λ r. ⌜ Kept (cellsOf s) (now (b .entry)) (now (u .entry)) (now (rows .entry)) (now (f .entry)) (now (w .entry)) (now (triples .entry)) (now (b .exit)) (now (u .exit)) (now (rows .exit)) (now (f .exit)) (now (w .exit)) (now (triples .exit)) r ⌝ }
 {
     let t = p.state;
@@ -160,7 +160,6 @@ fn cut_ring(
     p: Progress,
     vs: &[f64],
     lens: &[u32],
-    pref: f64,
     b: &mut [u8],
     u: &mut [u32],
     f: &mut [f32],
@@ -171,7 +170,7 @@ fn cut_ring(
     requires { ⌜ Standing s (now vs) (now lens) (now b) (now u) (now w) ⌝ }
     requires { ⌜ 2 * cellsOf s ≤ length (now f) ⌝ }
     requires { ⌜ Listed (now rows) (now triples) (p .state) 0 ⌝ }
-    ensures { λ r. ⌜ lf (slicesIn (cellsOf s) (now (b .exit)) (now (u .exit)) (now (f .exit)) (now (rows .exit)) (now (triples .exit))) r ≡ ringPart (groundIn s (now (vs .entry)) (now (lens .entry)) pref (now (b .entry)) (now (w .entry))) p (slicesIn (cellsOf s) (now (b .entry)) (now (u .entry)) (now (f .entry)) (now (rows .entry)) (now (triples .entry))) .left ⌝ }
+    ensures { λ r. ⌜ ((pref : Float) → lf (slicesIn (cellsOf s) (now (b .exit)) (now (u .exit)) (now (f .exit)) (now (rows .exit)) (now (triples .exit))) r ≡ ringPart (groundIn s (now (vs .entry)) (now (lens .entry)) pref (now (b .entry)) (now (w .entry))) p (slicesIn (cellsOf s) (now (b .entry)) (now (u .entry)) (now (f .entry)) (now (rows .entry)) (now (triples .entry))) .left) ⌝ }
     ensures { λ r. ⌜ Kept (cellsOf s) (now (b .entry)) (now (u .entry)) (now (rows .entry)) (now (f .entry)) (now (w .entry)) (now (triples .entry)) (now (b .exit)) (now (u .exit)) (now (rows .exit)) (now (f .exit)) (now (w .exit)) (now (triples .exit)) r ⌝ }
 {
     if p.cleanup {
@@ -230,7 +229,7 @@ fn rest(
     ensures { λ r. ⌜ lf (slicesIn (cellsOf s) (now (b .exit)) (now (u .exit)) (now (f .exit)) (now (rows .exit)) (now (triples .exit))) r ≡ restOf (groundIn s (now (vs .entry)) (now (lens .entry)) pref (now (b .entry)) (now (w .entry))) p (slicesIn (cellsOf s) (now (b .entry)) (now (u .entry)) (now (f .entry)) (now (rows .entry)) (now (triples .entry))) .left ⌝ }
     ensures { λ r. ⌜ Kept (cellsOf s) (now (b .entry)) (now (u .entry)) (now (rows .entry)) (now (f .entry)) (now (w .entry)) (now (triples .entry)) (now (b .exit)) (now (u .exit)) (now (rows .exit)) (now (f .exit)) (now (w .exit)) (now (triples .exit)) r ⌝ }
 {
-    let a = cut_ring(s, p, vs, lens, pref, b, u, f, w, triples, rows);
+    let a = cut_ring(s, p, vs, lens, b, u, f, w, triples, rows);
     let Step::Next(q) = a else {
         return a;
     };
@@ -257,7 +256,7 @@ pub fn round(
     ensures { λ r. ⌜ lf (slicesIn (cellsOf s) (now (b .exit)) (now (u .exit)) (now (f .exit)) (now (rows .exit)) (now (triples .exit))) r ≡ roundOf (groundIn s (now (vs .entry)) (now (lens .entry)) pref (now (b .entry)) (now (w .entry))) p (slicesIn (cellsOf s) (now (b .entry)) (now (u .entry)) (now (f .entry)) (now (rows .entry)) (now (triples .entry))) .left ⌝ }
     ensures { λ r. ⌜ Kept (cellsOf s) (now (b .entry)) (now (u .entry)) (now (rows .entry)) (now (f .entry)) (now (w .entry)) (now (triples .entry)) (now (b .exit)) (now (u .exit)) (now (rows .exit)) (now (f .exit)) (now (w .exit)) (now (triples .exit)) r ⌝ }
 {
-    let a = cut_pieces(s, p, vs, lens, pref, b, u, f, w, triples, rows);
+    let a = cut_pieces(s, p, vs, lens, b, u, f, w, triples, rows);
     let Step::Next(q) = a else {
         return a;
     };

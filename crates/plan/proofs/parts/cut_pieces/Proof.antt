@@ -11,7 +11,7 @@ spend-requires : tie.Need-spend-requires
 spend-requires c κs = search needs
 
 cut-pieces-requires : tie.Need-cut-pieces-requires
-cut-pieces-requires c κs = let s = c .before .before .before .before .before .before .before .before .before .before .before .before .before .before .before .before .before .before .before .before .before .before .before .before .before .before .before .before in pieces-ask (s .args .s) (s .args .vs .now) (s .args .lens .now) (s .args .pref) (s .args .p) (s .args .b .now) (s .args .u .now) (s .args .f .now) (s .args .w .now) (s .args .triples .now) (s .args .rows .now) (s .pre .0) (s .pre .1 .1) _ _ _ _ _ (c .before .before .before .before .before .before .before .before .before .before .before .before .before .before .trace-round .ensures) _ (c .before .before .before .before .before .spend .ensures)
+cut-pieces-requires c κs = let s = c .before .before .before .before .before .before .before .before .before .before .before .before .before .before .before .before .before .before .before .before .before .before .before .before .before .before .before .before in pieces-ask (s .args .s) (s .args .vs .now) (s .args .lens .now) (s .args .p) (s .args .b .now) (s .args .u .now) (s .args .f .now) (s .args .w .now) (s .args .triples .now) (s .args .rows .now) (s .pre .0) (s .pre .1 .1) _ _ _ _ _ (c .before .before .before .before .before .before .before .before .before .before .before .before .before .before .trace-round .ensures) _ (c .before .before .before .before .before .spend .ensures)
 
 after-pieces-requires : tie.Need-after-pieces-requires
 after-pieces-requires c κs = search needs
@@ -35,7 +35,7 @@ same-length-6 : tie.Need-same-length-6
 same-length-6 c = search needs
 
 returns : tie.Need-returns
-returns c = let s = c .before .before .before .before .before .before .before .before .before .before .before .before .before .before .before .before .before .before .before .before .before .before .before .before .before .before .before .before .before .before .before .before .before .before .before .before .before .before .before .before in pieces-part (s .args .s) (s .args .vs .now) (s .args .lens .now) (s .args .pref) (s .args .p) (s .args .b .now) (s .args .u .now) (s .args .f .now) (s .args .w .now) (s .args .triples .now) (s .args .rows .now) (s .pre .0) (s .pre .1 .1) _ _ _ _ _ (c .before .before .before .before .before .before .before .before .before .before .before .before .before .before .before .before .before .before .before .before .before .before .before .before .before .before .trace-round .ensures) _ (c .before .before .before .before .before .before .before .before .before .before .before .before .before .before .before .before .before .spend .ensures) _ _ _ _ _ _ (c .before .before .before .before .before .before .before .before .before .before .before .cut-pieces .ensures .0) (c .before .before .before .before .before .before .before .before .before .before .before .cut-pieces .ensures .1 .0) (c .before .before .before .before .before .before .before .before .before .before .before .cut-pieces .ensures .1 .1 .0) (c .before .before .before .before .before .before .before .before .before .before .before .cut-pieces .ensures .1 .1 .1 .0) (c .before .before .before .before .before .before .before .before .before .before .before .cut-pieces .ensures .1 .1 .1 .1 .0) (c .before .before .before .before .before .before .before .before .before .before .before .cut-pieces .ensures .1 .1 .1 .1 .1) _ (c .after-pieces .ensures)
+returns c = let s = c .before .before .before .before .before .before .before .before .before .before .before .before .before .before .before .before .before .before .before .before .before .before .before .before .before .before .before .before .before .before .before .before .before .before .before .before .before .before .before .before in pieces-part (s .args .s) (s .args .vs .now) (s .args .lens .now) (s .args .p) (s .args .b .now) (s .args .u .now) (s .args .f .now) (s .args .w .now) (s .args .triples .now) (s .args .rows .now) (s .pre .0) (s .pre .1 .1) _ _ _ _ _ (c .before .before .before .before .before .before .before .before .before .before .before .before .before .before .before .before .before .before .before .before .before .before .before .before .before .before .trace-round .ensures) _ (c .before .before .before .before .before .before .before .before .before .before .before .before .before .before .before .before .before .spend .ensures) _ _ _ _ _ _ (c .before .before .before .before .before .before .before .before .before .before .before .cut-pieces .ensures .0) (c .before .before .before .before .before .before .before .before .before .before .before .cut-pieces .ensures .1 .0) (c .before .before .before .before .before .before .before .before .before .before .before .cut-pieces .ensures .1 .1 .0) (c .before .before .before .before .before .before .before .before .before .before .before .cut-pieces .ensures .1 .1 .1 .0) (c .before .before .before .before .before .before .before .before .before .before .before .cut-pieces .ensures .1 .1 .1 .1 .0) (c .before .before .before .before .before .before .before .before .before .before .before .cut-pieces .ensures .1 .1 .1 .1 .1) _ (c .after-pieces .ensures)
 
 pub cut-pieces-spec : {M : Type 1} → statement M
 cut-pieces-spec =

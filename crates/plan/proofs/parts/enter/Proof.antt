@@ -8,7 +8,7 @@ enter-requires : tie.Need-enter-requires
 enter-requires c κs = search needs
 
 after-helix-requires : tie.Need-after-helix-requires
-after-helix-requires c κs = let s = c .before .before .before .before .before .before .before .before .before .before .before .before .before .before .before .before .before .before .before .before .before .before in helix-asks (s .args .s) (s .args .vs .now) (s .args .lens .now) (s .args .pref) (s .args .p) (s .args .b .now) (s .args .u .now) (s .args .f .now) (s .args .w .now) (s .args .triples .now) (s .args .rows .now) (s .pre .0) (s .pre .1 .1 .0) _ (c .before .before .before .before .before .before .before .before .enter .last .1 .1 .1 .1 .1 .1 .0) _ _ _ (c .before .before .before .before .before .before .before .before .enter .ensures .0) (s .pre .1 .1 .1)
+after-helix-requires c κs = let s = c .before .before .before .before .before .before .before .before .before .before .before .before .before .before .before .before .before .before .before .before .before .before in helix-asks (s .args .s) (s .args .vs .now) (s .args .lens .now) (s .args .p) (s .args .b .now) (s .args .u .now) (s .args .f .now) (s .args .w .now) (s .args .triples .now) (s .args .rows .now) (s .pre .0) (s .pre .1 .1 .0) (s .args .pref) _ (c .before .before .before .before .before .before .before .before .enter .last .1 .1 .1 .1 .1 .1 .0) _ _ _ (c .before .before .before .before .before .before .before .before .enter .ensures .0) (s .pre .1 .1 .1)
 
 same-length : tie.Need-same-length
 same-length c = search needs
@@ -23,7 +23,7 @@ same-length-4 : tie.Need-same-length-4
 same-length-4 c = search needs
 
 returns : tie.Need-returns
-returns c = let s = c .before .before .before .before .before .before .before .before .before .before .before .before .before .before .before .before .before .before .before .before .before .before .before in helix-part (s .args .s) (s .args .vs .now) (s .args .lens .now) (s .args .pref) (s .args .p) (s .args .b .now) (s .args .u .now) (s .args .f .now) (s .args .w .now) (s .args .triples .now) (s .args .rows .now) (s .pre .0) (s .pre .1 .1 .0) _ _ _ _ _ (c .before .before .before .before .before .before .before .before .before .enter .ensures .0) (c .before .before .before .before .before .before .before .before .before .enter .ensures .1 .0) (c .before .before .before .before .before .before .before .before .before .enter .ensures .1 .1) _ (c .after-helix .ensures)
+returns c = let s = c .before .before .before .before .before .before .before .before .before .before .before .before .before .before .before .before .before .before .before .before .before .before .before in helix-part (s .args .s) (s .args .vs .now) (s .args .lens .now) (s .args .p) (s .args .b .now) (s .args .u .now) (s .args .f .now) (s .args .w .now) (s .args .triples .now) (s .args .rows .now) (s .pre .0) (s .pre .1 .1 .0) (s .args .pref) _ _ _ _ _ (c .before .before .before .before .before .before .before .before .before .enter .ensures .0) (c .before .before .before .before .before .before .before .before .before .enter .ensures .1 .0) (c .before .before .before .before .before .before .before .before .before .enter .ensures .1 .1) _ (c .after-helix .ensures)
 
 pub enter-spec : {M : Type 1} → statement M
 enter-spec =

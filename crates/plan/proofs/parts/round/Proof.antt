@@ -30,10 +30,10 @@ same-length-6 : tie.Need-same-length-6
 same-length-6 c = search needs
 
 returns : tie.Need-returns
-returns c = let s = c .before .before .before .before .before .before .before .before .before .before .before .before .before .before .before .before .before .before .before .before .before .before .before .before .before .before .before .before in round-leaves (s .args .s) (s .args .vs .now) (s .args .lens .now) (s .args .pref) (s .args .p) (s .args .b .now) (s .args .u .now) (s .args .f .now) (s .args .w .now) (s .args .triples .now) (s .args .rows .now) (s .pre .0) (s .pre .1 .0) _ _ _ _ _ _ _ (c .before .before .before .before .before .before .before .before .before .before .before .before .before .cut-pieces .ensures .1) (c .before .before .before .before .before .before .before .before .before .before .before .before .before .cut-pieces .ensures .0) (c .match .keys2)
+returns c = let s = c .before .before .before .before .before .before .before .before .before .before .before .before .before .before .before .before .before .before .before .before .before .before .before .before .before .before .before .before in round-leaves (s .args .s) (s .args .vs .now) (s .args .lens .now) (s .args .pref) (s .args .p) (s .args .b .now) (s .args .u .now) (s .args .f .now) (s .args .w .now) (s .args .triples .now) (s .args .rows .now) (s .pre .0) (s .pre .1 .0) _ _ _ _ _ _ _ (c .before .before .before .before .before .before .before .before .before .before .before .before .before .cut-pieces .ensures .1) (c .before .before .before .before .before .before .before .before .before .before .before .before .before .cut-pieces .ensures .0 (s .args .pref)) (c .match .keys2)
 
 rest-requires : tie.Need-rest-requires
-rest-requires c κs = let s = c .before .before .before .before .before .before .before .before .before .before .before .before .before .before .before .before .before .before .before .before .before .before .before .before .before .before .before .before .before .before .before .before .before .before .before .before in round-asks (s .args .s) (s .args .vs .now) (s .args .lens .now) (s .args .pref) (s .args .p) (s .args .b .now) (s .args .u .now) (s .args .f .now) (s .args .w .now) (s .args .triples .now) (s .args .rows .now) (s .pre .0) (s .pre .1 .0) _ _ _ _ _ _ _ (c .before .before .before .before .before .before .before .before .before .before .before .before .before .before .before .before .before .before .before .before .before .cut-pieces .ensures .1) (c .before .before .before .before .before .before .before .before .before .before .before .before .before .before .before .before .before .before .before .before .before .cut-pieces .ensures .0) _ (c .before .before .before .before .before .before .before .a .given .1) (s .pre .1 .1 .1)
+rest-requires c κs = let s = c .before .before .before .before .before .before .before .before .before .before .before .before .before .before .before .before .before .before .before .before .before .before .before .before .before .before .before .before .before .before .before .before .before .before .before .before in round-asks (s .args .s) (s .args .vs .now) (s .args .lens .now) (s .args .pref) (s .args .p) (s .args .b .now) (s .args .u .now) (s .args .f .now) (s .args .w .now) (s .args .triples .now) (s .args .rows .now) (s .pre .0) (s .pre .1 .0) _ _ _ _ _ _ _ (c .before .before .before .before .before .before .before .before .before .before .before .before .before .before .before .before .before .before .before .before .before .cut-pieces .ensures .1) (c .before .before .before .before .before .before .before .before .before .before .before .before .before .before .before .before .before .before .before .before .before .cut-pieces .ensures .0 (s .args .pref)) _ (c .before .before .before .before .before .before .before .a .given .1) (s .pre .1 .1 .1)
 
 same-length-7 : tie.Need-same-length-7
 same-length-7 c = c .before .before .before .before .before .before .before .before .before .before .before .before .rest .ensures .1 .cells .long ∙ c .before .before .before .before .before .before .before .before .before .before .before .before .before .before .before .before .before .before .before .before .before .before .before .before .before .before .before .before .before .before .before .before .before .before .cut-pieces .ensures .1 .cells .long
@@ -54,7 +54,7 @@ same-length-12 : tie.Need-same-length-12
 same-length-12 c = search needs
 
 returns-2 : tie.Need-returns-2
-returns-2 c = let s = c .before .before .before .before .before .before .before .before .before .before .before .before .before .before .before .before .before .before .before .before .before .before .before .before .before .before .before .before .before .before .before .before .before .before .before .before .before .before .before .before .before .before .before .before .before .before .before .before .before in round-goes-on (s .args .s) (s .args .vs .now) (s .args .lens .now) (s .args .pref) (s .args .p) (s .args .b .now) (s .args .u .now) (s .args .f .now) (s .args .w .now) (s .args .triples .now) (s .args .rows .now) (s .pre .0) (s .pre .1 .0) _ _ _ _ _ _ _ (c .before .before .before .before .before .before .before .before .before .before .before .before .before .before .before .before .before .before .before .before .before .before .before .before .before .before .before .before .before .before .before .before .before .before .cut-pieces .ensures .1) (c .before .before .before .before .before .before .before .before .before .before .before .before .before .before .before .before .before .before .before .before .before .before .before .before .before .before .before .before .before .before .before .before .before .before .cut-pieces .ensures .0) _ (c .before .before .before .before .before .before .before .before .before .before .before .before .before .before .before .before .before .before .before .before .a .given .1) _ _ _ _ _ _ _ (c .before .before .before .before .before .before .before .before .before .before .before .before .rest .ensures .0) (c .before .before .before .before .before .before .before .before .before .before .before .before .rest .ensures .1)
+returns-2 c = let s = c .before .before .before .before .before .before .before .before .before .before .before .before .before .before .before .before .before .before .before .before .before .before .before .before .before .before .before .before .before .before .before .before .before .before .before .before .before .before .before .before .before .before .before .before .before .before .before .before .before in round-goes-on (s .args .s) (s .args .vs .now) (s .args .lens .now) (s .args .pref) (s .args .p) (s .args .b .now) (s .args .u .now) (s .args .f .now) (s .args .w .now) (s .args .triples .now) (s .args .rows .now) (s .pre .0) (s .pre .1 .0) _ _ _ _ _ _ _ (c .before .before .before .before .before .before .before .before .before .before .before .before .before .before .before .before .before .before .before .before .before .before .before .before .before .before .before .before .before .before .before .before .before .before .cut-pieces .ensures .1) (c .before .before .before .before .before .before .before .before .before .before .before .before .before .before .before .before .before .before .before .before .before .before .before .before .before .before .before .before .before .before .before .before .before .before .cut-pieces .ensures .0 (s .args .pref)) _ (c .before .before .before .before .before .before .before .before .before .before .before .before .before .before .before .before .before .before .before .before .a .given .1) _ _ _ _ _ _ _ (c .before .before .before .before .before .before .before .before .before .before .before .before .rest .ensures .0) (c .before .before .before .before .before .before .before .before .before .before .before .before .rest .ensures .1)
 
 pub round-spec : {M : Type 1} → statement M
 round-spec =
