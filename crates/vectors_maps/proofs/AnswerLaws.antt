@@ -21,7 +21,8 @@ use Rattle.raster.specs.Contact.{engagementOf, Rim}
 use Rattle.raster.specs.Fill.{fillRegion}
 use Rattle.raster.specs.declared.grid.Grid.{Grid}
 use Rattle.raster.proofs.RunLaws.{logged-run}
-use Rattle.vectors_maps.specs.Print.{printOf, rootsOf}
+use Rattle.vectors_maps.specs.Print.{rootsOf}
+use Rattle.prints.specs.Print.{printOf}
 use Rattle.vectors_maps.specs.Maps.{floatAt, pointAt, gridOf}
 use Rattle.vectors_maps.specs.Answers.{mapOf, told, cutOf, Crescent, verticesOf, lensOf, threeLoops, filledOf, Fill, Contact, Squares}
 use Rattle.vectors_maps.specs.declared.crescent.Removed.{Removed}

@@ -15,7 +15,7 @@ use Rattle.distance.specs.Least.{MapSides}
 use Rattle.raster.specs.Grid.{Over}
 use Rattle.raster.specs.Contact.{samplesOf}
 use Rattle.raster.specs.declared.grid.Grid.{Grid}
-use Rattle.vectors_maps.specs.Print.{mixed}
+use Rattle.prints.specs.Print.{mixed}
 use Rattle.vectors_maps.specs.Maps.{Small, Made, making, makeCell, madeOf, gridOf}
 
 pub make-long : (seed share e : ℕ) (m : List ℕ) → length (loop (makeCell share) 0 e (making seed m) .cells) ≡ length m

@@ -14,7 +14,8 @@ use Rattle.raster.specs.Log.{Stock, st, clearAfter, undone}
 use Rattle.raster.specs.Contact.{engagementOf}
 use Rattle.raster.specs.Fill.{fillRegion}
 use Rattle.raster.specs.declared.grid.Grid.{Grid}
-use Rattle.vectors_maps.specs.Print.{printOf, rootsOf}
+use Rattle.vectors_maps.specs.Print.{rootsOf}
+use Rattle.prints.specs.Print.{printOf}
 use Rattle.vectors_maps.specs.Maps.{madeOf, floatAt, pointAt, gridOf}
 use Rattle.vectors_maps.specs.declared.crescent.Removed.{Removed}
 

@@ -9,7 +9,7 @@ use Rattle.loops.specs.Loop.{loop}
 use Rattle.geom.specs.Vec.{v2}
 use Rattle.geom.specs.declared.vec2.Vec2.{Vec2}
 use Rattle.raster.specs.declared.grid.Grid.{Grid}
-use Rattle.vectors_maps.specs.Print.{mixed}
+use Rattle.prints.specs.Print.{mixed}
 
 -- sides of 1 to 32 cells
 pub record Small (nx ny : ℕ) : Type 0 where

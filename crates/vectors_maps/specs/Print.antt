@@ -1,21 +1,11 @@
--- Fingerprints: of numbers in order, and of the distances that squares stand for. Definitions only.
-use Prim.Native.Nat.{ℕ, _+_, _*_, _%_}
+-- Fingerprints of the distances that squares stand for. Definitions only.
+use Prim.Native.Nat.{ℕ}
 use mathlib.Core.List.{List}
 use lib.ListN.{getD}
 use lib.Ieee.{binary64, toBits}
 use Rattle.loops.specs.Loop.{loop}
 use Rattle.distance.specs.Rooted.{rootedOf}
-
--- one value more, by the remainder of 2^31 - 1
-unfoldable pub mixed : ℕ → ℕ → ℕ
-mixed h v = (h % 2147483647 * 48271 + v % 2147483647) % 2147483647
-
-abbrev pub mixAt : List ℕ → ℕ → ℕ → ℕ
-mixAt s k h = mixed h (getD s k 0)
-
--- the first n numbers of s
-unfoldable pub printOf : List ℕ → ℕ → ℕ
-printOf s n = loop (mixAt s) 0 n 1
+use Rattle.prints.specs.Print.{mixed}
 
 abbrev pub mixRoot : List ℕ → ℕ → ℕ → ℕ
 mixRoot s k h = mixed h (toBits binary64 (rootedOf (getD s k 0)))

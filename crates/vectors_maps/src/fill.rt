@@ -12,9 +12,9 @@ ghost use Rattle.vectors_maps.specs.Answers.{verticesOf, threeLoops, Fil
 use super::Judged;
 use super::maps::grid;
 use super::maps::make;
-use super::print::of_map;
 use bits::float;
 use geom::region::Region;
+use prints::of_map;
 use raster::fill::fill_region;
 use raster::grid::Grid;
 use raster::stock::count;

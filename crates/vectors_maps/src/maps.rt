@@ -3,9 +3,9 @@ ghost use mathlib.Core.Path.{_≡_};
 ghost use Prim.Native.Nat.{_≤_};
 ghost use lib.ListN.{length};
 ghost use Rattle.vectors_maps.specs.Maps.{madeOf, gridOf, pointAt};
-use super::print::mix;
 use bits::float;
 use geom::vec2::Vec2;
+use prints::mix;
 use raster::grid::Grid;
 
 // Columns or rows: 0 where they are more than 32.

@@ -1,40 +1,11 @@
-// Fingerprints of what is compared: h becomes 48271 h + v, by the remainder of 2^31 - 1, for each value in turn.
+// Fingerprints of distances.
 ghost use mathlib.Core.Path.{_≡_};
 ghost use Prim.Native.Nat.{_≤_};
 ghost use lib.ListN.{length};
-ghost use Rattle.vectors_maps.specs.Print.{mixed, printOf, rootsOf};
+ghost use Rattle.vectors_maps.specs.Print.{rootsOf};
 use bits::pattern;
 use distance::roots::distance_of;
-
-pub fn mix(h: u64, v: u64) -> u64
-    ensures { λ r. ⌜ r ≡ mixed h v ⌝ }
-{
-    (h % 2147483647 * 48271 + v % 2147483647) % 2147483647
-}
-
-// Of the first n bytes of a map.
-pub fn of_map(map: &[u8], n: usize) -> u64
-    requires { ⌜ n ≤ length (now map) ⌝ }
-    ensures { λ r. ⌜ r ≡ printOf (now (map .entry)) n ⌝ }
-{
-    let mut h = 1u64;
-    for k in 0..n {
-        h = mix(h, map[k] as u64);
-    }
-    h
-}
-
-// Of the first n numbers of a log, or squares.
-pub fn of_numbers(s: &[u32], n: usize) -> u64
-    requires { ⌜ n ≤ length (now s) ⌝ }
-    ensures { λ r. ⌜ r ≡ printOf (now (s .entry)) n ⌝ }
-{
-    let mut h = 1u64;
-    for k in 0..n {
-        h = mix(h, s[k] as u64);
-    }
-    h
-}
+use prints::mix;
 
 // Of the distances that the first n squares stand for, as bit patterns.
 pub fn of_roots(s: &[u32], n: usize) -> u64

@@ -4,8 +4,8 @@ ghost use Rattle.vectors_maps.specs.Maps.{Small};
 ghost use Rattle.vectors_maps.specs.Answers.{Squares};
 use super::Judged;
 use super::maps::make;
-use super::print::of_numbers;
 use super::print::of_roots;
+use prints::of_numbers;
 
 pub fn judged(s: &[u64; 64], last: usize, nx: usize, ny: usize) -> Judged
     requires { ⌜ Small nx ny ⌝ }

@@ -3,20 +3,11 @@
 //! bits, any NaN the same one. A map is made from a seed, and an answer that is a map, a log or a list is a
 //! fingerprint; crates/vectors_maps/README.md has both formulas.
 use compare::bits::Bits;
+use compare::prints::{fingerprint, mix};
 use oracle::generate::Rng;
 use oracle::geom::Region;
 use oracle::raster::{Grid, distance_transform};
 use oracle::vec2::{Vec2, v2};
-
-/// One step of the generator, and of a fingerprint.
-fn mix(h: u64, v: u64) -> u64 {
-    const PRIME: u64 = (1 << 31) - 1;
-    (h % PRIME * 48_271 + v % PRIME) % PRIME
-}
-
-fn fingerprint(values: impl IntoIterator<Item = u64>) -> u64 {
-    values.into_iter().fold(1, mix)
-}
 
 fn fingerprint_of_map(grid: &Grid) -> u64 {
     fingerprint(grid.data.iter().map(|&stock| stock as u64))

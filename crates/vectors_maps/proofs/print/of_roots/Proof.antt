@@ -4,7 +4,8 @@ use borrow.Author.Needs.{needs}
 use Prim.Native.Nat.{_-_}
 use mathlib.Core.Path.{ap, _∙_}
 use lib.Ieee.{binary64, toBits}
-use Rattle.vectors_maps.specs.Print.{mixed, mixRoot, rootsOf}
+use Rattle.vectors_maps.specs.Print.{mixRoot, rootsOf}
+use Rattle.prints.specs.Print.{mixed}
 use Rattle.vectors_maps.proofs.print.of_roots.Statement.{statement}
 use Rattle.vectors_maps.proofs.print.of_roots.Tie as tie
 

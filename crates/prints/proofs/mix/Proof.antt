@@ -1,9 +1,9 @@
--- `vectors_maps::print::mix` meets its contract. Assumes nothing.
+-- `prints::mix` meets its contract. Assumes nothing.
 use mathlib.Core.Path.{refl}
-use Rattle.vectors_maps.specs.Print.{mixed}
+use Rattle.prints.specs.Print.{mixed}
 use borrow.Author.Needs.{needs}
-use Rattle.vectors_maps.proofs.print.mix.Statement.{statement}
-use Rattle.vectors_maps.proofs.print.mix.Tie as tie
+use Rattle.prints.proofs.mix.Statement.{statement}
+use Rattle.prints.proofs.mix.Tie as tie
 
 mul-result : tie.Need-mul-result
 mul-result c = search needs

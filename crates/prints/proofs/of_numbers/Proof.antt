@@ -1,11 +1,11 @@
--- `vectors_maps::print::of_numbers` meets its contract. The invariant: the fingerprint is of the numbers so far. Assumes nothing.
+-- `prints::of_numbers` meets its contract. The invariant: the fingerprint is of the numbers so far. Assumes nothing.
 use native.Mathlib.Omega.{arith}
 use Rattle.loops.proofs.LoopLaws.{Going, going-none, going-more, going-end}
 use borrow.Author.Needs.{needs}
 use Prim.Native.Nat.{_-_}
-use Rattle.vectors_maps.specs.Print.{mixAt, printOf}
-use Rattle.vectors_maps.proofs.print.of_numbers.Statement.{statement}
-use Rattle.vectors_maps.proofs.print.of_numbers.Tie as tie
+use Rattle.prints.specs.Print.{mixAt, printOf}
+use Rattle.prints.proofs.of_numbers.Statement.{statement}
+use Rattle.prints.proofs.of_numbers.Tie as tie
 
 abbrev Inv-loop : tie.InvT-loop
 Inv-loop s n h₀ k₀ h k = Going (mixAt s) 0 n 1 h k

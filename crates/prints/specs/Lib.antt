@@ -1,0 +1,2 @@
+-- What the contracts of `prints` cite.
+pub mod Print
