@@ -13,6 +13,7 @@ use setup::Setup;
 
 mod allowed;
 mod reach;
+pub mod ready;
 mod rim;
 mod stock;
 mod walls;
