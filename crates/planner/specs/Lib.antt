@@ -1,0 +1,3 @@
+-- What the contracts of `planner` cite.
+pub mod Planner
+pub mod Answered
