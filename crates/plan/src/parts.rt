@@ -258,7 +258,7 @@ pub fn round(
 {
     let a = cut_pieces(s, p, vs, lens, b, u, f, w, triples, rows);
     let Step::Next(q) = a else {
-        return a;
+        return a; // a pass was cut, or it was refused
     };
     rest(s, q, vs, lens, pref, b, u, f, w, triples, rows)
 }

@@ -4,3 +4,4 @@ pub mod AnsweredLaws
 pub mod AnswerLaws
 pub mod ReadyLaws
 pub mod FitLaws
+pub mod ShrinkLaws
