@@ -1,7 +1,7 @@
 -- The job of an example, and its answer. Definitions only.
 use Prim.Native.Nat.{ℕ, _+_, _%_, _^_}
 use mathlib.Core.Bool.{Bool, true}
-use mathlib.Core.List.{List, _∷_, []}
+use mathlib.Core.List.{_∷_, []}
 use lib.ListN.{replicate}
 use lib.Ieee.{Float, binary64, ofBits, mul, eq}
 use Rattle.numbers.specs.Circle.{radiansOf}
