@@ -2,3 +2,4 @@ pub mod SetupLaws
 pub mod PathLaws
 pub mod PassLaws
 pub mod CutLaws
+pub mod PlannerLaws

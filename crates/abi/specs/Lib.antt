@@ -5,3 +5,4 @@ pub mod Raster
 pub mod Setup
 pub mod Passes
 pub mod Cutting
+pub mod Planner

@@ -10,6 +10,7 @@ pub mod job;
 pub mod replay;
 pub mod rim;
 pub mod run;
+pub mod stored;
 pub mod switches;
 pub mod vec2;
 pub mod walls;

@@ -1,8 +1,7 @@
 //! The answers to the stored jobs have not changed: `rust/jobs/answers.txt` holds their fingerprints.
-mod common;
-use common::{jobs_folder, quick, stored};
 use oracle::job;
 use oracle::run::{fingerprint_line, print, run};
+use oracle::stored::{jobs_folder, names, quick, stored};
 use std::collections::BTreeSet;
 
 #[test]
@@ -23,12 +22,7 @@ fn stored_answers() {
 
 #[test]
 fn every_stored_job_has_an_answer() {
-    let names = |path: std::path::PathBuf| {
-        let extension = path.extension().is_some_and(|e| e == "job");
-        extension.then(|| path.file_stem().unwrap().to_string_lossy().into_owned())
-    };
-    let entries = std::fs::read_dir(jobs_folder()).unwrap();
-    let jobs: BTreeSet<String> = entries.filter_map(|e| names(e.unwrap().path())).collect();
+    let jobs: BTreeSet<String> = names().into_iter().collect();
     let text = std::fs::read_to_string(jobs_folder().join("answers.txt")).unwrap();
     let answered: BTreeSet<String> =
         text.lines().filter_map(|l| Some(l.split_once(' ')?.0.to_string())).collect();

@@ -1,8 +1,7 @@
 //! The answers that document 01 gives, written out by hand.
-mod common;
-use common::stored;
 use oracle::job::{self, Job};
 use oracle::run::{Plan, run};
+use oracle::stored::stored;
 
 fn answer(job: &Job) -> Result<Plan, u32> {
     run(job, false).answer

@@ -1,11 +1,10 @@
 //! Every rule of term 3 by replay, on generated jobs; and that the replay finds damage.
-mod common;
-use common::{quick, stored};
 use oracle::generate;
 use oracle::hooks::Event;
 use oracle::job::Job;
 use oracle::replay::{self, faults};
 use oracle::run::{Outcome, Plan, print, run};
+use oracle::stored::{quick, stored};
 use oracle::switches::{self, Switches};
 use std::sync::OnceLock;
 use std::sync::atomic::{AtomicU64, Ordering};

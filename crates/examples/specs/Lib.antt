@@ -1,0 +1,2 @@
+-- What the contracts of `examples` cite.
+pub mod Examples
