@@ -17,6 +17,7 @@ pub mod numbers;
 pub mod passes;
 pub mod planner;
 pub mod planners;
+pub mod prints;
 pub mod raster;
 pub mod setup;
 pub mod timing;
