@@ -3,6 +3,7 @@
 use oracle::entry;
 use oracle::generate::Rng;
 use oracle::job::Job;
+use oracle::planner::AdaptiveReport;
 
 mod linked {
     unsafe extern "C" {
@@ -260,4 +261,27 @@ impl Planned {
         let workspace = self.words.holds(&[]) && self.singles.holds(&[]) && self.doubles.holds(&[]);
         workspace && self.bytes.holds(map) && self.rows.holds(rows) && self.triples.holds(triples)
     }
+}
+
+/// The report's numbers, in the order in which they are put down.
+pub fn counts(r: &AdaptiveReport) -> [u64; 10] {
+    [
+        r.layers,
+        r.passes,
+        r.helix_entries,
+        r.retracts,
+        r.links,
+        r.starting_cells,
+        r.standing_cells,
+        r.helix_given_up,
+        r.spent_budget as usize,
+        r.left_reachable as usize,
+    ]
+    .map(|v| v as u64)
+}
+
+/// The bits of its floats.
+pub fn floats(r: &AdaptiveReport) -> [u64; 4] {
+    [r.planned_max_engagement_deg, r.removed_area, r.remaining_reachable_area, r.unreachable_area]
+        .map(f64::to_bits)
 }

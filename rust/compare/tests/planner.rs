@@ -1,9 +1,8 @@
 //! Whole jobs beside the oracle: answer, report, rows, triples, final map, zeros everywhere else, and what lies around
 //! the lent slices, which are full of noise.
-use compare::planner::Planned;
+use compare::planner::{Planned, counts, floats};
 use oracle::generate::{self, Rng};
 use oracle::job::Job;
-use oracle::planner::AdaptiveReport;
 use oracle::run::{Plan, run};
 use oracle::stored::{names, small, stored};
 
@@ -20,27 +19,6 @@ impl Met {
         println!("{:?}", self.0);
         assert!(self.0.iter().sum::<usize>() >= jobs && self.0.iter().all(|&met| met > 0), "{:?}", self.0);
     }
-}
-
-fn counts(r: &AdaptiveReport) -> [u64; 10] {
-    [
-        r.layers,
-        r.passes,
-        r.helix_entries,
-        r.retracts,
-        r.links,
-        r.starting_cells,
-        r.standing_cells,
-        r.helix_given_up,
-        r.spent_budget as usize,
-        r.left_reachable as usize,
-    ]
-    .map(|v| v as u64)
-}
-
-fn floats(r: &AdaptiveReport) -> [u64; 4] {
-    [r.planned_max_engagement_deg, r.removed_area, r.remaining_reachable_area, r.unreachable_area]
-        .map(f64::to_bits)
 }
 
 fn same_plan(got: &Planned, want: &Plan, name: &str) {

@@ -106,7 +106,10 @@ fn grids() {
         let got = compare::raster::new(lo, hi, cell, margin);
         match (got, want) {
             (Ok((o, nx, ny)), Ok(g)) => {
-                assert_eq!((o.x.bits(), o.y.bits(), nx, ny), (g.origin.x.bits(), g.origin.y.bits(), g.nx, g.ny));
+                assert_eq!(
+                    (o.x.bits(), o.y.bits(), nx, ny),
+                    (g.origin.x.bits(), g.origin.y.bits(), g.nx, g.ny)
+                );
                 answers[0] += 1;
             }
             (Err(a), Err(b)) => {

@@ -1,9 +1,9 @@
 //! Writes the published planner's answers to a few stored jobs, as the program `vectors_plans` writes its own:
 //! crates/vectors_plans/README.md has the lines.
 use compare::bits::Bits;
+use compare::planner::{counts, floats};
 use compare::prints::fingerprint;
 use oracle::job::Job;
-use oracle::planner::AdaptiveReport;
 use oracle::run::{Plan, run};
 use oracle::stored::stored;
 use oracle::vec2::v2;
@@ -13,24 +13,6 @@ const BYTES: usize = 72_200;
 const NUMBERS: usize = 296_992;
 const ROWS: usize = 300;
 const TRIPLES: usize = 3_006;
-
-fn report(r: &AdaptiveReport) -> Vec<u64> {
-    let counts = [
-        r.layers,
-        r.passes,
-        r.helix_entries,
-        r.retracts,
-        r.links,
-        r.starting_cells,
-        r.standing_cells,
-        r.helix_given_up,
-        r.spent_budget as usize,
-        r.left_reachable as usize,
-    ];
-    let floats =
-        [r.planned_max_engagement_deg, r.removed_area, r.remaining_reachable_area, r.unreachable_area];
-    counts.map(|n| n as u64).into_iter().chain(floats.map(Bits::bits)).collect()
-}
 
 /// A slice of `long` places, `lent` of them: the numbers, zeros, and sevens where nothing was lent.
 fn slice(numbers: Vec<u64>, lent: usize, long: usize, seven: u64) -> u64 {
@@ -45,7 +27,7 @@ fn lines(mut job: Job, rows: usize, triples: usize) {
     (job.lent_rows, job.lent_triples) = (rows / 3, triples / 3);
     let plan = run(&job, false).answer;
     let mut words = match &plan {
-        Ok(plan) => [vec![0], report(&plan.report)].concat(),
+        Ok(plan) => [&[0][..], &counts(&plan.report), &floats(&plan.report)].concat(),
         Err(n) => vec![*n as u64],
     };
     let of = |f: fn(&Plan) -> Vec<u64>| plan.as_ref().map_or(Vec::new(), f);
@@ -53,7 +35,12 @@ fn lines(mut job: Job, rows: usize, triples: usize) {
     words.push(slice(Vec::new(), NUMBERS, NUMBERS, 7));
     words.push(slice(Vec::new(), NUMBERS, NUMBERS, 7));
     words.push(slice(of(|p| p.rows.iter().flatten().map(|&n| n as u64).collect()), rows, ROWS, 7));
-    words.push(slice(of(|p| p.triples.iter().flatten().map(|x| x.bits()).collect()), triples, TRIPLES, 7f64.bits()));
+    words.push(slice(
+        of(|p| p.triples.iter().flatten().map(|x| x.bits()).collect()),
+        triples,
+        TRIPLES,
+        7f64.bits(),
+    ));
     for word in words {
         println!("{word}");
     }
