@@ -3,8 +3,9 @@ use Prim.Native.Nat.{ℕ, _+_, _%_, _^_}
 use mathlib.Core.Bool.{Bool, true}
 use mathlib.Core.List.{_∷_, []}
 use lib.ListN.{replicate}
-use lib.Ieee.{Float, binary64, ofBits, mul, eq}
+use lib.Ieee.{binary64, mul, eq}
 use Rattle.numbers.specs.Circle.{radiansOf}
+use Rattle.numbers.specs.Small.{half}
 use Rattle.geom.specs.Vec.{f0}
 use Rattle.setup.specs.Limits.{guardOf}
 use Rattle.field.specs.Field.{s0}
@@ -29,9 +30,6 @@ answerTo p = outcomeOf (jobOf p) enough .answer
 -- links, plunges, cuts and helices; added as u64
 unfoldable pub chunksOf : AdaptiveReport → ℕ
 chunksOf r = ((r .links + r .retracts) % 2 ^ 64 + (r .passes + r .«helix_entries») % 2 ^ 64) % 2 ^ 64
-
-abbrev half : Float
-half = ofBits binary64 0x3fe0_0000_0000_0000
 
 -- the guard is half the limit
 unfoldable pub guardHalf : AdaptiveParams → Bool

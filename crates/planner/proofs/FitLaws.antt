@@ -2,9 +2,9 @@
 use mathlib.Core.Path.{_≡_, refl, sym, ap, _∙_, subst}
 use mathlib.Core.Bool.{Bool}
 use mathlib.Core.List.{List, _∷_}
-use Prim.Native.Nat.{ℕ, zero, suc, _+_, _-_, _*_, _/_, _≤_, min}
+use Prim.Native.Nat.{ℕ, zero, suc, _*_, _≤_}
 use native.Mathlib.Omega.{arith}
-use lib.ListN.{length, take, drop, replicate, length-replicate}
+use lib.ListN.{length, take, replicate, length-replicate}
 use lib.Ieee.{Float}
 use Rattle.numbers.specs.Bound.{Bounds}
 use Rattle.geom.specs.Vec.{f0}
@@ -14,7 +14,6 @@ use Rattle.setup.specs.Layout.{run}
 use Rattle.setup.specs.Made.{setupOf}
 use Rattle.setup.specs.Place.{cellsOf}
 use Rattle.setup.specs.declared.Setup.{Setup}
-use Rattle.setup.proofs.PartLaws.{part-is}
 use Rattle.field.specs.Field.{s0}
 use Rattle.workspace.specs.Standing.{Standing}
 use Rattle.entry.specs.Regions.{pocketOf, AllHeld}
@@ -26,9 +25,10 @@ use Rattle.entry.specs.declared.judge.Judged.the-variants.{Fit, Refused as Barr
 use Rattle.start.specs.Start.{stockOf, mayIn, reachOf, Started}
 use Rattle.start.specs.Steps.{Room}
 use Rattle.start.proofs.StartLaws.{room-of}
+use Rattle.start.proofs.WriteLaws.{same-run}
 use Rattle.report.specs.Zero.{Lent, lent}
 use Rattle.plan.specs.Parts.{Ground, Slices, slices, slicesIn, groundIn}
-use Rattle.planner.specs.Planner.{Job, job, gridOf, setupFor, startOf, groundOf, slicesOf, threes, outcome, Outcome, lengthsOf, plannedBy, plannedOf, outcomeBy, outcomeOf}
+use Rattle.planner.specs.Planner.{Job, job, setupFor, startOf, groundOf, slicesOf, threes, outcome, Outcome, lengthsOf, plannedBy, plannedOf, outcomeBy, outcomeOf}
 use Rattle.planner.specs.Answered.{AnswerTold}
 use Rattle.planner.specs.declared.outcome.Answer.{Answer}
 use Rattle.planner.specs.declared.outcome.Answer.the-variants.{Refused}
@@ -42,10 +42,6 @@ take-same : {A : Type 0} (v : A) (k n : ℕ) → k ≤ n → take k (replicate n
 take-same v zero n h = refl
 take-same v (suc k) zero h = absurd (let z : ⊥ = omega arith in z)
 take-same v (suc k) (suc n) h = ap (λ (l : List _). v ∷ l) (take-same v k n (omega arith))
-
-run-same : {A : Type 0} (v : A) (n m : ℕ) → n ≤ m → run 0 n (replicate m v) ≡ replicate n v
-run-same v n m h =
-    sym (part-is 0 n 0 n (replicate m v) (omega arith) (omega arith)) ∙ ap (λ (k : ℕ). take k (replicate m v)) (let z : n - 0 ≡ n = omega arith in z) ∙ take-same v n m h
 
 -- ---- of what is lent only the lengths count
 
@@ -140,7 +136,7 @@ module _ (p : AdaptiveParams) (whole : Bool) (vs : List Float) (lens regions : L
 
             field-is : run 0 (cellsOf s₀) f₁ ≡ replicate (cellsOf s₀) s0
             field-is =
-                ap (run 0 (cellsOf s₀)) F ∙ run-same s0 (cellsOf s₀) (length f) (omega (arith, admitted-lent p whole vs lens regions (lengthsOf given) g A .singles))
+                ap (run 0 (cellsOf s₀)) F ∙ same-run s0 0 (cellsOf s₀) (length f) (omega (arith, admitted-lent p whole vs lens regions (lengthsOf given) g A .singles))
 
             slices-are : hereOf s₀ ≡ slicesOf theJob (threes (length rows)) (threes (length triples))
             unfolding slicesOf

@@ -1,19 +1,19 @@
 -- For the proof of `plan_ready`: the parts that are lent to the plan, what is used of them, and the outcome from what the steps answered. Assumes nothing.
 use mathlib.Core.Path.{_≡_, sym, ap, _∙_, subst}
 use mathlib.Core.List.{List}
-use Prim.Native.Nat.{ℕ, _+_, _-_, _*_, _≤_}
+use Prim.Native.Nat.{ℕ, _-_, _*_, _≤_}
 use native.Mathlib.Omega.{arith}
 use lib.ListN.{length, take, drop, replicate, length-take}
 use lib.Seq.{take-at, take-take, take-append-le}
 use lib.Ieee.{Float}
 use borrow.Rule.Slice.PartMut.{putMid, postOf, mid-len, same-len-mid}
 use Rattle.loops.specs.Cells.{ones}
-use Rattle.loops.specs.Regions.{within}
 use Rattle.geom.specs.Vec.{f0}
 use Rattle.field.specs.Field.{s0}
 use Rattle.setup.specs.Layout.{mapIn}
 use Rattle.setup.specs.Place.{cellsOf}
 use Rattle.setup.specs.declared.Setup.{Setup}
+use Rattle.setup.proofs.PartLaws.{part-is}
 use Rattle.cutting.specs.Listing.{mostListed}
 use Rattle.cutting.specs.Piece.{Listed}
 use Rattle.workspace.specs.Standing.{reachIn}
@@ -84,13 +84,11 @@ used-fits n rows o (Stopped k) (Accepted r) L = record { cells = omega arith; ro
 used-fits n rows o (Finished q spent) (Accepted r) L = record { cells = omega arith; rows = L .fit-rows; triples = omega (arith, L .fit-triples) }
 
 -- the map is at the head of the bytes
-map-first : (n k : ℕ) (b : List ℕ) → k ≤ n → take k b ≡ take k (mapIn n b)
-unfolding within
-map-first n k b h = sym (ap (λ (z : ℕ). take k (take (z + n - z) (drop z b))) (let z : 0 * n ≡ 0 = omega arith in z) ∙ ap (λ (z : ℕ). take k (take z b)) (let z : 0 + n - 0 ≡ n = omega arith in z) ∙ take-take k n b h)
-
 map-is : (n : ℕ) (b : List ℕ) → take (n - 0) (drop 0 b) ≡ mapIn n b
-unfolding within
-map-is n b = sym (ap (λ (z : ℕ). take (z + n - z) (drop z b)) (let z : 0 * n ≡ 0 = omega arith in z) ∙ ap (λ (z : ℕ). take z b) (let z : 0 + n - 0 ≡ n - 0 = omega arith in z))
+map-is n b = part-is 0 n 0 n b (omega arith) (omega arith)
+
+map-first : (n k : ℕ) (b : List ℕ) → k ≤ n → take k b ≡ take k (mapIn n b)
+map-first n k b h = sym (take-take k n b h) ∙ ap (take k) (sym (first-is n b) ∙ map-is n b)
 
 -- of what was lent only the lengths count
 pub cleared-same : (c : Used) (m m′ rows rows′ : List ℕ) (o o′ : List Float) (l l′ : Lent) → take (c .cells) m ≡ take (c .cells) m′ → take (3 * c .rows) rows ≡ take (3 * c .rows) rows′

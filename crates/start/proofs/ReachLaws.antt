@@ -34,7 +34,8 @@ use Rattle.setup.proofs.LayoutLaws.{run-put, run-other}
 use Rattle.setup.proofs.PartLaws.{part-is, put-run-long}
 use Rattle.start.specs.Start.{wallAt, wallsOf, flag, clearAt, mayAt, allowedOf, reachAt, reachOf}
 use Rattle.start.specs.Steps.{lengthAt, mayByte, nearByte, nearAt, Reached}
-use Rattle.start.proofs.WriteLaws.{within-at, writeFrom, run-written, read-run, listed-same}
+use Rattle.pieces.proofs.PartLaws.{within-get}
+use Rattle.start.proofs.WriteLaws.{writeFrom, run-written, read-run, listed-same}
 use Rattle.start.proofs.StockLaws.{Bits}
 
 -- ---- lengths
@@ -72,7 +73,7 @@ square-is mark m nx ny u u′ U k h =
 -- the first places
 front-at : {A : Type 0} (n : ℕ) (w : List A) (k : ℕ) (d : A) → k < n → getD (take (n - 0) (drop 0 w)) k d ≡ getD w k d
 unfolding within
-front-at n w k d h = within-at 0 n w k d (omega arith) ∙ ap (λ (z : ℕ). getD w z d) (let z : 0 + k ≡ k = omega arith in z)
+front-at n w k d h = within-get d 0 n w k (omega arith) ∙ ap (λ (z : ℕ). getD w z d) (let z : 0 + k ≡ k = omega arith in z)
 
 module _ (g : Grid) (b u u′ : List ℕ) (w t : List Float) (n a : ℕ) (N : n ≡ g .ny * g .nx) (K : a ≡ 5 * n) (h : g .ny * g .nx ≤ length w)
     (U : u′ ≡ transformOf 0 (take (a + n - a) (drop a b)) (g .nx) (g .ny) u)
@@ -138,7 +139,7 @@ may-is s vs lens n b w k c i v l C I E =
     E
     ∙ ap (λ (z : ℕ). mayByte s vs lens z i (getD w k nan)) C
     ∙ ap (λ (z : ℕ). mayByte s vs lens k z (getD w k nan)) I
-    ∙ ap (mayByte s vs lens k (getD (run 5 n b) k 0)) (ap (λ (z : ℕ). getD w z nan) (let z : k ≡ 0 + k = omega arith in z) ∙ sym (within-at 0 n w k nan (omega arith)))
+    ∙ ap (mayByte s vs lens k (getD (run 5 n b) k 0)) (ap (λ (z : ℕ). getD w z nan) (let z : k ≡ 0 + k = omega arith in z) ∙ sym (within-get nan 0 n w k (omega arith)))
 
 pub allowed-is : (s : Setup) (vs : List Float) (lens b b′ : List ℕ) (w : List Float) (n a : ℕ) → n ≡ cellsOf s → a ≡ 1 * n → 8 * cellsOf s ≤ length b
     → b′ ≡ loop (writeFrom a (mayWith s vs lens n b w)) 0 n b → b′ ≡ putRun 1 (cellsOf s) (allowedOf s vs lens (run 5 (cellsOf s) b) (within 0 (cellsOf s) w)) b

@@ -29,7 +29,7 @@ use Rattle.setup.proofs.PartLaws.{put-run-long}
 use Rattle.entry.specs.Regions.{pocketOf}
 use Rattle.start.specs.Start.{insideOf, addRegion, addRegions, stockOf}
 use Rattle.start.specs.Steps.{stockByte, stockAt, Filled, Stocked}
-use Rattle.start.proofs.WriteLaws.{writeFrom, read-run, listed-self, zeros, zero-run}
+use Rattle.start.proofs.WriteLaws.{writeFrom, read-run, listed-self, zeros, same-run}
 
 -- ---- lengths
 
@@ -131,7 +131,7 @@ module _ (g : Grid) (vs : List Float) (lens regions : List ℕ) where
     long₁ = ap length B₁ ∙ length-replicate (length b) 0
 
     zero₁ : (k : ℕ) → k * size + size ≤ length b → run k size b₁ ≡ empty
-    zero₁ k l = ap (run k size) B₁ ∙ zero-run k size (length b) l
+    zero₁ k l = ap (run k size) B₁ ∙ same-run 0 k size (length b) l
 
     put₂ : b₂ ≡ putRun 5 size (insideOf g vs lens (pocketOf lens regions)) b₁
     unfolding insideOf

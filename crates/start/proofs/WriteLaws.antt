@@ -4,7 +4,7 @@ use mathlib.Core.List.{List, [], _∷_, _++_}
 use Prim.Native.Nat.{ℕ, zero, suc, _+_, _-_, _*_, _≤_, _<_}
 use native.Mathlib.Omega.{arith}
 use lib.ListN.{length, getD, set, take, drop, replicate, length-set, length-replicate, getD-replicate}
-use lib.Seq.{getD-take, getD-drop, ext-getD}
+use lib.Seq.{ext-getD}
 use borrow.Rule.Slice.PartMut.{putMid, set-mid-at}
 use Rattle.loops.specs.Loop.{loop}
 use Rattle.loops.specs.Regions.{Fits, within, put}
@@ -18,14 +18,10 @@ use Rattle.distance.proofs.NearestLaws.{listed-long, listed-at}
 use Rattle.field.proofs.RoundLaws.{writeAt, written-all}
 use Rattle.setup.specs.Layout.{run, putRun}
 use Rattle.setup.proofs.PartLaws.{part-is, part-long, run-long, back-is}
+use Rattle.pieces.proofs.PartLaws.{within-get}
 use Rattle.setup.proofs.LayoutLaws.{run-other}
 
 -- ---- fits loops: a region written place by place
-
--- a place is read from the region that it lies in
-pub within-at : {A : Type 0} (a e : ℕ) (w : List A) (k : ℕ) (d : A) → k < e - a → getD (within a e w) k d ≡ getD w (a + k) d
-unfolding within
-within-at a e w k d h = getD-take (e - a) (drop a w) k d h ∙ getD-drop a w k d
 
 -- place a + k is given the value g k
 abbrev pub writeFrom : {A : Type 0} → ℕ → (ℕ → A) → ℕ → List A → List A
@@ -87,7 +83,7 @@ module _ {A : Type 0} (n k a : ℕ) (K : a ≡ k * n) (b : List A) (h : k * n + 
       let o′ : Only (k * n) (k * n + n) b b′ = subst (λ (z : ℕ). Only z (z + n) b b′) K o in
       let long = o′ .long in
       let same : run j n b′ ≡ run j n b = ap (run j n) (o′ .rest) ∙ run-other n b (run k n b′) (run-long k n b′ (omega arith)) k j h x in
-      ap (λ (z : ℕ). getD b′ (z + i) d) J ∙ sym (within-at (j * n) (j * n + n) b′ i d (omega arith)) ∙ ap (λ (q : List A). getD q i d) same
+      ap (λ (z : ℕ). getD b′ (z + i) d) J ∙ sym (within-get d (j * n) (j * n + n) b′ i (omega arith)) ∙ ap (λ (q : List A). getD q i d) same
 
 -- ---- fits distance: lists by their numbers
 
@@ -103,17 +99,18 @@ listed-self d l n e =
     ext-getD d (listed n (λ k. getD l k d)) l (listed-long (λ k. getD l k d) d n ∙ sym e)
     (λ i b. listed-at (λ k. getD l k d) d n i (omega (arith, listed-long (λ k. getD l k d) d n)))
 
--- ---- a part of zeros
+-- ---- a run of places that all hold one value
 
 abbrev pub zeros : ℕ → List ℕ
 zeros n = replicate n 0
 
-pub zero-run : (k n m : ℕ) → k * n + n ≤ m → run k n (zeros m) ≡ zeros n
-zero-run k n m h =
-    let l : length (zeros m) ≡ m = length-replicate m 0 in
-    let r : length (run k n (zeros m)) ≡ n = run-long k n (zeros m) (omega arith) in
-    ext-getD 0 (run k n (zeros m)) (zeros n) (r ∙ sym (length-replicate n 0))
-    (λ i b. within-at (k * n) (k * n + n) (zeros m) i 0 (omega arith) ∙ getD-replicate m (k * n + i) 0 0 (omega arith) ∙ sym (getD-replicate n i 0 0 (omega arith)))
+pub same-run : {A : Type 0} (v : A) (k n m : ℕ) → k * n + n ≤ m → run k n (replicate m v) ≡ replicate n v
+same-run {A} v k n m h =
+    let all : List A = replicate m v in
+    let l : length all ≡ m = length-replicate m v in
+    let r : length (run k n all) ≡ n = run-long k n all (omega arith) in
+    ext-getD v (run k n all) (replicate n v) (r ∙ sym (length-replicate n v))
+    (λ i b. within-get v (k * n) (k * n + n) all i (omega arith) ∙ getD-replicate m (k * n + i) v v (omega arith) ∙ sym (getD-replicate n i v v (omega arith)))
 
 -- ---- a run filled with zeros
 
