@@ -70,7 +70,7 @@ fn counts_fit(whole: bool, lens: &[u32], regions: &[u32]) -> bool
 }
 
 // Those of their vertices.
-fn vertices_fit(vs: &[f64], lens: &[u32]) -> bool
+pub fn vertices_fit(vs: &[f64], lens: &[u32]) -> bool
     requires { ⌜ length (now lens) ≤ 4096 ⌝ }
     ensures { λ b. ⌜ b ≡ verticesFit (now (vs .entry)) (now (lens .entry)) ⌝ }
 {

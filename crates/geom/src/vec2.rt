@@ -2,6 +2,7 @@
 ghost use mathlib.Core.Path.{_≡_};
 ghost use Rattle.geom.specs.Vec.{sum, difference, scaled, lerpOf, dotOf, crossOf, perpOf, squareOf, distanceOf, lengthOf, normalizedOf, fromAngle};
 
+#[repr(C)]
 pub struct Vec2 {
     pub x: f64,
     pub y: f64,

@@ -19,7 +19,8 @@ fn cut_length(triples: &[f64], first: usize, n: usize) -> f64
     t
 }
 
-fn wanted(long: f64, cell: f64) -> usize
+// How many cells a pass of such a length is to remove.
+pub fn wanted(long: f64, cell: f64) -> usize
     ensures { λ n. ⌜ n ≡ wantedOf long cell ⌝ }
 {
     let n = numbers::cast::sat_u64(0.05 * long / cell) as usize;

@@ -6,6 +6,7 @@ ghost use Rattle.raster.specs.Grid.{Sides, Over, refusalOf, spansOf, fit
 use geom::vec2::Vec2;
 use numbers::cast::float_of;
 
+#[repr(C)]
 pub struct Grid {
     // Lower-left corner of cell (0, 0).
     pub origin: Vec2,

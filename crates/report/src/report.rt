@@ -16,6 +16,7 @@ use setup::Setup;
 use setup::layout;
 
 // `AdaptiveReport` of the Rust without its texts. The last five fields are document 01's.
+#[repr(C)]
 pub struct AdaptiveReport {
     pub layers: usize,
     pub passes: usize,
