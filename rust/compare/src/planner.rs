@@ -1,9 +1,138 @@
-//! A whole job planned by the layer `planner`. It is lent slices full of noise, which lie between noise, so that
-//! a test sees what is left of it.
-use oracle::entry;
-use oracle::generate::Rng;
-use oracle::job::Job;
-use oracle::planner::AdaptiveReport;
+//! The call of the proved planner, with the structs of c/pocket.h. Floats that are lent are their bits, so that every
+//! change of a slice is seen.
+use oracle::planner::{AdaptiveParams, AdaptiveReport};
+use std::ptr::null_mut;
+
+/// What may be left out.
+#[repr(C)]
+#[derive(Clone, Copy, Debug)]
+pub struct Setting {
+    pub given: bool,
+    pub value: f64,
+}
+
+/// `pocket_params`.
+#[repr(C)]
+#[derive(Clone, Copy, Debug)]
+pub struct Params {
+    pub tool_diameter: f64,
+    pub max_engagement_deg: f64,
+    pub step_down: f64,
+    pub top: f64,
+    pub bottom: f64,
+    pub stock_to_leave: f64,
+    pub safe_z: f64,
+    pub feed: f64,
+    pub plunge_feed: f64,
+    pub link_feed: f64,
+    pub helix_ramp_deg: f64,
+    pub helix_radius: Setting,
+    pub chip_thinning_max: Setting,
+    pub resolution: Setting,
+    pub keep_tool_down: bool,
+}
+
+/// `pocket_report`.
+#[repr(C)]
+#[derive(Clone, Copy, Debug, Default)]
+pub struct Report {
+    pub layers: usize,
+    pub passes: usize,
+    pub helix_entries: usize,
+    pub retracts: usize,
+    pub links: usize,
+    pub planned_max_engagement_deg: f64,
+    pub removed_area: f64,
+    pub remaining_reachable_area: f64,
+    pub unreachable_area: f64,
+    pub starting_cells: usize,
+    pub standing_cells: usize,
+    pub helix_given_up: usize,
+    pub spent_budget: bool,
+    pub left_reachable: bool,
+}
+
+/// `pocket_answer`: 0 and the report, or the number of the question that is answered no.
+#[repr(C)]
+#[derive(Clone, Copy, Debug)]
+pub struct Answer {
+    pub refused: u32,
+    pub report: Report,
+}
+
+/// The nine slices of a call.
+pub struct Slices<'a> {
+    pub vertices: &'a mut [u64],
+    pub lengths: &'a mut [u32],
+    pub regions: &'a mut [u32],
+    pub bytes: &'a mut [u8],
+    pub words: &'a mut [u32],
+    pub singles: &'a mut [u32],
+    pub doubles: &'a mut [u64],
+    pub rows: &'a mut [u32],
+    pub triples: &'a mut [u64],
+}
+
+impl Params {
+    /// A setting that is absent has `absent` for its number.
+    pub fn new(p: &AdaptiveParams, absent: f64) -> Params {
+        let setting = |v: Option<f64>| Setting { given: v.is_some(), value: v.unwrap_or(absent) };
+        Params {
+            tool_diameter: p.tool_diameter,
+            max_engagement_deg: p.max_engagement_deg,
+            step_down: p.step_down,
+            top: p.top,
+            bottom: p.bottom,
+            stock_to_leave: p.stock_to_leave,
+            safe_z: p.safe_z,
+            feed: p.feed,
+            plunge_feed: p.plunge_feed,
+            link_feed: p.link_feed,
+            helix_ramp_deg: p.helix_ramp_deg,
+            helix_radius: setting(p.helix_radius),
+            chip_thinning_max: setting(p.chip_thinning_max),
+            resolution: setting(p.resolution),
+            keep_tool_down: p.keep_tool_down,
+        }
+    }
+}
+
+impl Report {
+    pub fn new(r: &AdaptiveReport) -> Report {
+        Report {
+            layers: r.layers,
+            passes: r.passes,
+            helix_entries: r.helix_entries,
+            retracts: r.retracts,
+            links: r.links,
+            planned_max_engagement_deg: r.planned_max_engagement_deg,
+            removed_area: r.removed_area,
+            remaining_reachable_area: r.remaining_reachable_area,
+            unreachable_area: r.unreachable_area,
+            starting_cells: r.starting_cells,
+            standing_cells: r.standing_cells,
+            helix_given_up: r.helix_given_up,
+            spent_budget: r.spent_budget,
+            left_reachable: r.left_reachable,
+        }
+    }
+
+    /// Its counts, then its flags, then the bits of its floats.
+    pub fn numbers(&self) -> [u64; 14] {
+        let counts = [self.layers, self.passes, self.helix_entries, self.retracts, self.links];
+        let cells = [self.starting_cells, self.standing_cells, self.helix_given_up];
+        let flags = [self.spent_budget as usize, self.left_reachable as usize];
+        let floats = [
+            self.planned_max_engagement_deg,
+            self.removed_area,
+            self.remaining_reachable_area,
+            self.unreachable_area,
+        ];
+        let whole = counts.into_iter().chain(cells).chain(flags).map(|v| v as u64);
+        let mut all = whole.chain(floats.map(f64::to_bits));
+        std::array::from_fn(|_| all.next().unwrap())
+    }
+}
 
 mod linked {
     unsafe extern "C" {
@@ -27,20 +156,20 @@ mod linked {
             cell: f64,
             keep_tool_down: bool,
             whole: bool,
-            vs: *const f64,
-            vs_len: usize,
-            lens: *const u32,
-            lens_len: usize,
+            vertices: *const f64,
+            vertices_len: usize,
+            lengths: *const u32,
+            lengths_len: usize,
             regions: *const u32,
             regions_len: usize,
-            b: *mut u8,
-            b_len: usize,
-            u: *mut u32,
-            u_len: usize,
-            f: *mut f32,
-            f_len: usize,
-            w: *mut f64,
-            w_len: usize,
+            bytes: *mut u8,
+            bytes_len: usize,
+            words: *mut u32,
+            words_len: usize,
+            singles: *mut f32,
+            singles_len: usize,
+            doubles: *mut f64,
+            doubles_len: usize,
             rows: *mut u32,
             rows_len: usize,
             triples: *mut f64,
@@ -53,235 +182,75 @@ mod linked {
     }
 }
 
-/// A number of a lent slice; a float is its bits.
-pub trait Word: Copy + PartialEq + Default {
-    fn of(bits: u64) -> Self;
+/// The pointer of a slice without elements is not looked at.
+fn place<T>(slice: &mut [T]) -> *mut T {
+    if slice.is_empty() { null_mut() } else { slice.as_mut_ptr() }
 }
 
-impl Word for u8 {
-    fn of(bits: u64) -> u8 {
-        bits as u8
-    }
-}
-
-impl Word for u32 {
-    fn of(bits: u64) -> u32 {
-        bits as u32
-    }
-}
-
-impl Word for u64 {
-    fn of(bits: u64) -> u64 {
-        bits
-    }
-}
-
-/// How many numbers stand before and behind a lent slice.
-const GUARD: usize = 64;
-
-/// A slice to be lent, and what it and the numbers around it were.
-pub struct Noisy<T> {
-    all: Vec<T>,
-    was: Vec<T>,
-}
-
-impl<T: Word> Noisy<T> {
-    fn new(r: &mut Rng, len: usize) -> Noisy<T> {
-        let was: Vec<T> = (0..len + 2 * GUARD).map(|_| T::of(r.bits())).collect();
-        Noisy { all: was.clone(), was }
-    }
-
-    fn inner(&self) -> std::ops::Range<usize> {
-        GUARD..self.all.len() - GUARD
-    }
-
-    pub fn lent(&self) -> &[T] {
-        &self.all[self.inner()]
-    }
-
-    fn lend(&mut self) -> &mut [T] {
-        let inner = self.inner();
-        &mut self.all[inner]
-    }
-
-    /// Neither the slice nor what lies around it has changed.
-    pub fn untouched(&self) -> bool {
-        self.all == self.was
-    }
-
-    /// What lies around the slice has not changed.
-    pub fn guarded(&self) -> bool {
-        let inner = self.inner();
-        self.all[..GUARD] == self.was[..GUARD] && self.all[inner.end..] == self.was[inner.end..]
-    }
-
-    /// The slice has `used` in front, and zeros behind.
-    pub fn holds(&self, used: &[T]) -> bool {
-        let lent = self.lent();
-        lent.starts_with(used) && lent[used.len()..].iter().all(|v| *v == T::default())
-    }
-}
-
-/// What a job is lent, and its answer.
-pub struct Planned {
-    /// 0 accepted, else the number of the refusal.
-    pub number: u32,
-    pub bytes: Noisy<u8>,
-    pub words: Noisy<u32>,
-    pub singles: Noisy<u32>,
-    pub doubles: Noisy<u64>,
-    pub rows: Noisy<u32>,
-    pub triples: Noisy<u64>,
-    /// The report's counts, then its flags.
-    pub counts: Noisy<u64>,
-    pub floats: Noisy<u64>,
-}
-
-/// Lengths of the workspace that the job lends; where it lends just enough, now and then some more.
-fn lengths(r: &mut Rng, job: &Job) -> [usize; 4] {
-    let needed = match entry::refused(job) {
-        None | Some(15) => {
-            let (nx, ny) = entry::sides(&job.regions().0, job.cell());
-            entry::lent_needed(nx * ny)
-        }
-        Some(_) => [200, 800, 50, 800],
+/// Plans a job. Nothing is required of it: any bits are a float, any number a length.
+pub fn adaptive_clear(p: &Params, whole: bool, lent: Slices) -> Answer {
+    let (mut counts, mut floats) = ([0u64; 10], [0f64; 4]);
+    let refused = unsafe {
+        linked::planner_adaptive_clear(
+            p.tool_diameter,
+            p.max_engagement_deg,
+            p.step_down,
+            p.top,
+            p.bottom,
+            p.stock_to_leave,
+            p.safe_z,
+            p.feed,
+            p.plunge_feed,
+            p.link_feed,
+            p.helix_ramp_deg,
+            p.helix_radius.given,
+            p.helix_radius.value,
+            p.chip_thinning_max.given,
+            p.chip_thinning_max.value,
+            p.resolution.given,
+            p.resolution.value,
+            p.keep_tool_down,
+            whole,
+            place(lent.vertices).cast(),
+            lent.vertices.len(),
+            place(lent.lengths),
+            lent.lengths.len(),
+            place(lent.regions),
+            lent.regions.len(),
+            place(lent.bytes),
+            lent.bytes.len(),
+            place(lent.words),
+            lent.words.len(),
+            place(lent.singles).cast(),
+            lent.singles.len(),
+            place(lent.doubles).cast(),
+            lent.doubles.len(),
+            place(lent.rows),
+            lent.rows.len(),
+            place(lent.triples).cast(),
+            lent.triples.len(),
+            counts.as_mut_ptr(),
+            counts.len(),
+            floats.as_mut_ptr(),
+            floats.len(),
+        )
     };
-    std::array::from_fn(|k| job.lent[k].unwrap_or(needed[k] + r.pick(&[0, 0, 1, 100])))
-}
-
-/// Loops of each region: the pocket, then those of the stock.
-fn regions(job: &Job) -> impl Iterator<Item = &Vec<usize>> {
-    std::iter::once(&job.pocket).chain(job.stock.iter().flatten())
-}
-
-impl Planned {
-    /// A rest of one or two numbers counts for no row and no triple.
-    fn new(r: &mut Rng, job: &Job) -> Planned {
-        let [bytes, words, singles, doubles] = lengths(r, job);
-        let (rows, triples) =
-            (3 * job.lent_rows + r.below(3) as usize, 3 * job.lent_triples + r.below(3) as usize);
-        Planned {
-            number: u32::MAX,
-            bytes: Noisy::new(r, bytes),
-            words: Noisy::new(r, words),
-            singles: Noisy::new(r, singles),
-            doubles: Noisy::new(r, doubles),
-            rows: Noisy::new(r, rows),
-            triples: Noisy::new(r, triples),
-            counts: Noisy::new(r, 10),
-            floats: Noisy::new(r, 4),
-        }
-    }
-
-    /// The planner's answer to a job.
-    pub fn of(r: &mut Rng, job: &Job) -> Planned {
-        let mut planned = Planned::new(r, job);
-        planned.plan(job);
-        planned
-    }
-
-    fn plan(&mut self, job: &Job) {
-        let p = &job.params;
-        let vs: Vec<f64> = job.verts.iter().flat_map(|v| [v.x, v.y]).collect();
-        let lens: Vec<u32> = regions(job).flatten().map(|&n| n as u32).collect();
-        let regions: Vec<u32> = regions(job).map(|l| l.len() as u32).collect();
-        let (b, u) = (self.bytes.lend(), self.words.lend());
-        let (f, w) = (self.singles.lend(), self.doubles.lend());
-        let (rows, triples) = (self.rows.lend(), self.triples.lend());
-        let (counts, floats) = (self.counts.lend(), self.floats.lend());
-        // Any bits are a float, and nothing is required of a job.
-        self.number = unsafe {
-            linked::planner_adaptive_clear(
-                p.tool_diameter,
-                p.max_engagement_deg,
-                p.step_down,
-                p.top,
-                p.bottom,
-                p.stock_to_leave,
-                p.safe_z,
-                p.feed,
-                p.plunge_feed,
-                p.link_feed,
-                p.helix_ramp_deg,
-                p.helix_radius.is_some(),
-                p.helix_radius.unwrap_or(f64::NAN),
-                p.chip_thinning_max.is_some(),
-                p.chip_thinning_max.unwrap_or(f64::NAN),
-                p.resolution.is_some(),
-                p.resolution.unwrap_or(f64::NAN),
-                p.keep_tool_down,
-                job.stock.is_none(),
-                vs.as_ptr(),
-                vs.len(),
-                lens.as_ptr(),
-                lens.len(),
-                regions.as_ptr(),
-                regions.len(),
-                b.as_mut_ptr(),
-                b.len(),
-                u.as_mut_ptr(),
-                u.len(),
-                f.as_mut_ptr().cast(),
-                f.len(),
-                w.as_mut_ptr().cast(),
-                w.len(),
-                rows.as_mut_ptr(),
-                rows.len(),
-                triples.as_mut_ptr().cast(),
-                triples.len(),
-                counts.as_mut_ptr(),
-                counts.len(),
-                floats.as_mut_ptr().cast(),
-                floats.len(),
-            )
-        };
-    }
-
-    /// No lent slice has changed, nor what lies around it.
-    pub fn untouched(&self) -> bool {
-        let workspace = self.bytes.untouched() && self.words.untouched() && self.singles.untouched();
-        let outputs = self.rows.untouched() && self.triples.untouched();
-        workspace && self.doubles.untouched() && outputs && self.unreported()
-    }
-
-    /// There is no report.
-    pub fn unreported(&self) -> bool {
-        self.counts.untouched() && self.floats.untouched()
-    }
-
-    /// What lies around the lent slices has not changed.
-    pub fn guarded(&self) -> bool {
-        let workspace = self.bytes.guarded() && self.words.guarded() && self.singles.guarded();
-        let outputs = self.rows.guarded() && self.triples.guarded();
-        workspace && self.doubles.guarded() && outputs && self.counts.guarded() && self.floats.guarded()
-    }
-
-    /// Map, rows and triples in front; all else is zero.
-    pub fn holds(&self, map: &[u8], rows: &[u32], triples: &[u64]) -> bool {
-        let workspace = self.words.holds(&[]) && self.singles.holds(&[]) && self.doubles.holds(&[]);
-        workspace && self.bytes.holds(map) && self.rows.holds(rows) && self.triples.holds(triples)
-    }
-}
-
-/// The report's numbers, in the order in which they are put down.
-pub fn counts(r: &AdaptiveReport) -> [u64; 10] {
-    [
-        r.layers,
-        r.passes,
-        r.helix_entries,
-        r.retracts,
-        r.links,
-        r.starting_cells,
-        r.standing_cells,
-        r.helix_given_up,
-        r.spent_budget as usize,
-        r.left_reachable as usize,
-    ]
-    .map(|v| v as u64)
-}
-
-/// The bits of its floats.
-pub fn floats(r: &AdaptiveReport) -> [u64; 4] {
-    [r.planned_max_engagement_deg, r.removed_area, r.remaining_reachable_area, r.unreachable_area]
-        .map(f64::to_bits)
+    let count = |k: usize| counts[k] as usize;
+    let report = Report {
+        layers: count(0),
+        passes: count(1),
+        helix_entries: count(2),
+        retracts: count(3),
+        links: count(4),
+        planned_max_engagement_deg: floats[0],
+        removed_area: floats[1],
+        remaining_reachable_area: floats[2],
+        unreachable_area: floats[3],
+        starting_cells: count(5),
+        standing_cells: count(6),
+        helix_given_up: count(7),
+        spent_budget: counts[8] == 1,
+        left_reachable: counts[9] == 1,
+    };
+    Answer { refused, report }
 }

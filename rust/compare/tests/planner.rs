@@ -1,19 +1,20 @@
 //! Whole jobs beside the oracle: answer, report, rows, triples, final map, zeros everywhere else, and what lies around
 //! the lent slices, which are full of noise.
-use compare::planner::{Planned, counts, floats};
+use compare::planned::compared;
 use oracle::generate::{self, Rng};
 use oracle::job::Job;
-use oracle::run::{Plan, run};
 use oracle::stored::{names, small, stored};
-
-/// Rows and triples, where a job lends more than any plan here needs.
-const PLENTY: (usize, usize) = (4_000, 100_000);
 
 /// How many jobs had each answer, by number; 0 is accepted.
 #[derive(Default)]
 struct Met([usize; 19]);
 
 impl Met {
+    fn add(&mut self, r: &mut Rng, job: &Job, name: &str) {
+        let number = compared(r, job).unwrap_or_else(|fault| panic!("{name}: {fault}"));
+        self.0[number as usize] += 1;
+    }
+
     /// So many jobs, and every answer among them.
     fn all(&self, jobs: usize) {
         println!("{:?}", self.0);
@@ -21,46 +22,11 @@ impl Met {
     }
 }
 
-fn same_plan(got: &Planned, want: &Plan, name: &str) {
-    assert_eq!(got.number, 0, "{name}");
-    assert_eq!(got.counts.lent(), counts(&want.report), "{name}");
-    assert_eq!(got.floats.lent(), floats(&want.report), "{name}");
-    let map: Vec<u8> = want.map.iter().map(|&stock| stock as u8).collect();
-    let triples: Vec<u64> = want.triples.concat().into_iter().map(f64::to_bits).collect();
-    assert!(got.holds(&map, &want.rows.concat(), &triples), "{name}");
-}
-
-/// 1 to 15 change no lent slice; after 16 to 18 workspace and outputs are zero.
-fn same_refusal(got: &Planned, number: u32, name: &str) {
-    assert_eq!(got.number, number, "{name}");
-    assert!(got.unreported(), "{name}");
-    assert!(if number <= 15 { got.untouched() } else { got.holds(&[], &[], &[]) }, "{name}");
-}
-
-/// Plans the job on both sides.
-fn compare(r: &mut Rng, job: &Job, name: &str, met: &mut Met) {
-    let (rows, triples) = PLENTY;
-    let job = Job {
-        lent_rows: job.lent_rows.min(rows),
-        lent_triples: job.lent_triples.min(triples),
-        ..job.clone()
-    };
-    let got = Planned::of(r, &job);
-    assert!(got.guarded(), "{name}");
-    match run(&job, false).answer {
-        Ok(want) => same_plan(&got, &want, name),
-        Err(number) => same_refusal(&got, number, name),
-    }
-    assert!(got.number != 16 || job.lent_triples < triples, "{name}");
-    assert!(got.number != 17 || job.lent_rows < rows, "{name}");
-    met.0[got.number as usize] += 1;
-}
-
 #[test]
 fn stored_jobs() {
     let (mut r, mut met) = (Rng(51), Met::default());
     for name in names() {
-        compare(&mut r, &stored(&name), &name, &mut met);
+        met.add(&mut r, &stored(&name), &name);
     }
     met.all(200);
 }
@@ -78,7 +44,7 @@ fn generated_jobs() {
         for seed in seeds {
             let (job, kind) = generate::job(seed, kind).unwrap();
             if small(&job, 35.0, 14_000) {
-                compare(&mut r, &job, &format!("seed {seed} {kind}"), &mut met);
+                met.add(&mut r, &job, &format!("seed {seed} {kind}"));
             }
         }
     }

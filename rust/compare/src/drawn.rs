@@ -1,0 +1,54 @@
+//! Jobs of all kinds, drawn for a comparison at scale.
+use crate::extreme::{damaged, torn};
+use crate::planned::{compared, compared_raw, trimmed};
+use crate::raw::Raw;
+use oracle::generate::{self, Rng};
+use oracle::job::Job;
+use oracle::stored::small;
+
+/// The kinds of the generator, and those that are made here of its jobs: floats that are special, lists that are torn.
+pub const KINDS: usize = generate::KINDS.len() + 3;
+
+pub fn kind(k: usize) -> &'static str {
+    *generate::KINDS.iter().chain(&["exact", "extreme", "torn"]).nth(k).unwrap()
+}
+
+/// How large a job may be: at least this engagement, at most so many cells.
+#[derive(Clone, Copy)]
+pub struct Size {
+    pub engagement: f64,
+    pub cells: usize,
+}
+
+/// A job of the kind that is small enough, and its seed for `gen`.
+fn job(r: &mut Rng, kind: &str, size: Size) -> (Job, u64) {
+    loop {
+        let seed = r.bits() >> 32;
+        let job = match kind {
+            "extreme" | "torn" => {
+                let whole = generate::job(seed, None).unwrap().0;
+                if kind == "torn" { whole } else { damaged(r, whole) }
+            }
+            _ => generate::job(seed, Some(kind)).unwrap().0,
+        };
+        if small(&job, size.engagement, size.cells) {
+            return (job, seed);
+        }
+    }
+}
+
+/// Draws a job by these bits and plans it on both sides: the answer's number, or the difference.
+pub fn drawn(bits: u64, kind: &str, size: Size) -> Result<u32, String> {
+    let mut r = Rng(bits);
+    let (job, seed) = job(&mut r, kind, size);
+    let answer = match kind {
+        "torn" => {
+            let job = trimmed(&job);
+            let raw = Raw::varied(&mut r, &job);
+            let raw = torn(&mut r, raw);
+            compared_raw(&mut r, &raw, &job)
+        }
+        _ => compared(&mut r, &job),
+    };
+    answer.map_err(|fault| format!("{kind}, seed {seed}: {fault}"))
+}
