@@ -2,4 +2,3 @@ pub mod SetupLaws
 pub mod PathLaws
 pub mod PassLaws
 pub mod CutLaws
-pub mod PlannerLaws

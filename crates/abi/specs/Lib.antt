@@ -5,4 +5,3 @@ pub mod Raster
 pub mod Setup
 pub mod Passes
 pub mod Cutting
-pub mod Planner

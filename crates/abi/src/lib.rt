@@ -8,6 +8,5 @@ pub mod of_geom;
 pub mod of_links;
 pub mod of_numbers;
 pub mod of_passes;
-pub mod of_planner;
 pub mod of_raster;
 pub mod of_setup;

@@ -2,6 +2,7 @@
 use crate::extreme::{damaged, torn};
 use crate::planned::{compared, compared_raw, trimmed};
 use crate::raw::Raw;
+use oracle::entry;
 use oracle::generate::{self, Rng};
 use oracle::job::Job;
 use oracle::stored::small;
@@ -10,7 +11,7 @@ use oracle::stored::small;
 pub const KINDS: usize = generate::KINDS.len() + 3;
 
 pub fn kind(k: usize) -> &'static str {
-    *generate::KINDS.iter().chain(&["exact", "extreme", "torn"]).nth(k).unwrap()
+    generate::KINDS.iter().chain(&["exact", "extreme", "torn"]).nth(k).unwrap()
 }
 
 /// How large a job may be: at least this engagement, at most so many cells.
@@ -20,18 +21,18 @@ pub struct Size {
     pub cells: usize,
 }
 
-/// A job of the kind that is small enough, and its seed for `gen`.
+/// A job of the kind that is small enough, and its seed for `gen`. Most special floats are turned back at once; half of
+/// the jobs with them are not.
 fn job(r: &mut Rng, kind: &str, size: Size) -> (Job, u64) {
+    let fit = kind == "extreme" && r.chance(0.5);
     loop {
         let seed = r.bits() >> 32;
         let job = match kind {
-            "extreme" | "torn" => {
-                let whole = generate::job(seed, None).unwrap().0;
-                if kind == "torn" { whole } else { damaged(r, whole) }
-            }
+            "extreme" => damaged(r, generate::job(seed, None).unwrap().0),
+            "torn" => generate::job(seed, None).unwrap().0,
             _ => generate::job(seed, Some(kind)).unwrap().0,
         };
-        if small(&job, size.engagement, size.cells) {
+        if small(&job, size.engagement, size.cells) && !(fit && entry::refused(&job).is_some()) {
             return (job, seed);
         }
     }

@@ -135,26 +135,11 @@ impl Report {
 }
 
 mod linked {
+    use super::{Answer, Params};
+
     unsafe extern "C" {
-        pub fn planner_adaptive_clear(
-            tool_diameter: f64,
-            max_engagement_deg: f64,
-            step_down: f64,
-            top: f64,
-            bottom: f64,
-            stock_to_leave: f64,
-            safe_z: f64,
-            feed: f64,
-            plunge_feed: f64,
-            link_feed: f64,
-            helix_ramp_deg: f64,
-            has_helix: bool,
-            helix: f64,
-            has_chip: bool,
-            chip: f64,
-            has_cell: bool,
-            cell: f64,
-            keep_tool_down: bool,
+        pub fn pocket_adaptive_clear(
+            params: Params,
             whole: bool,
             vertices: *const f64,
             vertices_len: usize,
@@ -174,11 +159,7 @@ mod linked {
             rows_len: usize,
             triples: *mut f64,
             triples_len: usize,
-            counts: *mut u64,
-            counts_len: usize,
-            floats: *mut f64,
-            floats_len: usize,
-        ) -> u32;
+        ) -> Answer;
     }
 }
 
@@ -187,29 +168,12 @@ fn place<T>(slice: &mut [T]) -> *mut T {
     if slice.is_empty() { null_mut() } else { slice.as_mut_ptr() }
 }
 
-/// Plans a job. Nothing is required of it: any bits are a float, any number a length.
-pub fn adaptive_clear(p: &Params, whole: bool, lent: Slices) -> Answer {
-    let (mut counts, mut floats) = ([0u64; 10], [0f64; 4]);
-    let refused = unsafe {
-        linked::planner_adaptive_clear(
-            p.tool_diameter,
-            p.max_engagement_deg,
-            p.step_down,
-            p.top,
-            p.bottom,
-            p.stock_to_leave,
-            p.safe_z,
-            p.feed,
-            p.plunge_feed,
-            p.link_feed,
-            p.helix_ramp_deg,
-            p.helix_radius.given,
-            p.helix_radius.value,
-            p.chip_thinning_max.given,
-            p.chip_thinning_max.value,
-            p.resolution.given,
-            p.resolution.value,
-            p.keep_tool_down,
+/// Plans a job.
+pub fn adaptive_clear(params: &Params, whole: bool, lent: Slices) -> Answer {
+    // Nothing is required of a job: any bits are a float, any number a length.
+    unsafe {
+        linked::pocket_adaptive_clear(
+            *params,
             whole,
             place(lent.vertices).cast(),
             lent.vertices.len(),
@@ -229,28 +193,6 @@ pub fn adaptive_clear(p: &Params, whole: bool, lent: Slices) -> Answer {
             lent.rows.len(),
             place(lent.triples).cast(),
             lent.triples.len(),
-            counts.as_mut_ptr(),
-            counts.len(),
-            floats.as_mut_ptr(),
-            floats.len(),
         )
-    };
-    let count = |k: usize| counts[k] as usize;
-    let report = Report {
-        layers: count(0),
-        passes: count(1),
-        helix_entries: count(2),
-        retracts: count(3),
-        links: count(4),
-        planned_max_engagement_deg: floats[0],
-        removed_area: floats[1],
-        remaining_reachable_area: floats[2],
-        unreachable_area: floats[3],
-        starting_cells: count(5),
-        standing_cells: count(6),
-        helix_given_up: count(7),
-        spent_budget: counts[8] == 1,
-        left_reachable: counts[9] == 1,
-    };
-    Answer { refused, report }
+    }
 }

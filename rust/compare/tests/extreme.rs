@@ -33,12 +33,12 @@ fn some(kind: &str, jobs: u64, answers: &[usize]) {
 
 #[test]
 fn special_floats() {
-    some("extreme", 600, &[0, 1, 2, 3, 4, 5, 6, 7, 8, 9, 10, 11, 12, 13, 14]);
+    some("extreme", 500, &[0, 1, 2, 3, 4, 5, 6, 7, 8, 9, 10, 11, 12, 13, 14]);
 }
 
 #[test]
 fn torn_lists() {
-    some("torn", 600, &[0, 13, 15]);
+    some("torn", 400, &[0, 13, 15]);
 }
 
 /// The answer to the job of a point with these lists, and just enough lent.

@@ -1,8 +1,10 @@
 //! Whole jobs beside the oracle: answer, report, rows, triples, final map, zeros everywhere else, and what lies around
 //! the lent slices, which are full of noise.
-use compare::planned::compared;
+use compare::planned::{Planned, compared, trimmed};
+use compare::raw::Raw;
 use oracle::generate::{self, Rng};
 use oracle::job::Job;
+use oracle::run::{Plan, run};
 use oracle::stored::{names, small, stored};
 
 /// How many jobs had each answer, by number; 0 is accepted.
@@ -49,4 +51,31 @@ fn generated_jobs() {
         }
     }
     met.all(1_000);
+}
+
+/// A plan that is another one in a single place is told apart.
+#[test]
+fn differences_are_seen() {
+    let job = trimmed(&stored("doc-res-0.1"));
+    let got = Planned::new(&mut Rng(53), &Raw::new(&job));
+    let plan = run(&job, false).answer.unwrap();
+    assert_eq!(got.fault(&Ok(plan.clone())), None);
+    let changes: [fn(&mut Plan); 8] = [
+        |p| p.report.links += 1,
+        |p| p.report.removed_area = p.report.removed_area.next_up(),
+        |p| p.report.left_reachable = true,
+        |p| p.map[4_000] ^= true,
+        |p| p.rows[50][2] += 1,
+        |p| p.triples[1_000][2] = p.triples[1_000][2].next_down(),
+        |p| p.triples.truncate(1_000),
+        |p| p.rows.push([4, 0, 0]),
+    ];
+    for (k, change) in changes.into_iter().enumerate() {
+        let mut other = plan.clone();
+        change(&mut other);
+        assert!(got.fault(&Ok(other)).is_some(), "change {k}");
+    }
+    for number in 1..=18 {
+        assert!(got.fault(&Err(number)).is_some(), "{number}");
+    }
 }
