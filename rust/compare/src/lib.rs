@@ -27,5 +27,7 @@ pub mod prints;
 pub mod raster;
 pub mod raw;
 pub mod reserved;
+pub mod sampled;
 pub mod setup;
+pub mod symbols;
 pub mod timing;

@@ -196,3 +196,8 @@ pub fn adaptive_clear(params: &Params, whole: bool, lent: Slices) -> Answer {
         )
     }
 }
+
+/// The address of the library's function.
+pub fn entry() -> usize {
+    linked::pocket_adaptive_clear as *const () as usize
+}

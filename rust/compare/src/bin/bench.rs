@@ -1,6 +1,7 @@
 //! Times each proved function beside Rust's in one run: nanoseconds of CPU a call, best of several.
 //! Rust's stands twice: called over the C interface as the proved one is, and inline.
 use compare::bits::Bits;
+use compare::timing::cpu;
 use compare::{ffi, numbers};
 use oracle::generate::Rng;
 use std::f64::consts::TAU;
@@ -10,26 +11,6 @@ use std::hint::black_box;
 const VALUES: usize = 2048;
 const ROUNDS: usize = 1000;
 const TRIES: usize = 9;
-
-#[repr(C)]
-struct Timespec {
-    seconds: i64,
-    nanoseconds: i64,
-}
-
-unsafe extern "C" {
-    fn clock_gettime(clock: i32, time: *mut Timespec) -> i32;
-}
-
-/// CPU nanoseconds of this thread.
-fn cpu() -> f64 {
-    const CLOCK_THREAD_CPUTIME_ID: i32 = 3;
-    let mut t = Timespec { seconds: 0, nanoseconds: 0 };
-    // The system fills in the struct lent to it.
-    let answer = unsafe { clock_gettime(CLOCK_THREAD_CPUTIME_ID, &mut t) };
-    assert_eq!(answer, 0, "no CPU clock");
-    t.seconds as f64 * 1e9 + t.nanoseconds as f64
-}
 
 /// Nanoseconds a call.
 fn time<T: Copy>(values: &[T], f: impl Fn(T) -> u64) -> f64 {

@@ -1,0 +1,276 @@
+//! Times whole plans of the proved library beside the Rust, and prints the tables of docs/PERFORMANCE.md: `cargo run
+//! --release --bin bench_plans [-- --threads 1]`. All times are of the thread's CPU.
+use compare::planner::{Answer, Report, Slices, adaptive_clear};
+use compare::raw::Raw;
+use compare::sampled::{FRAMES, Met, sampled};
+use compare::timing::cpu;
+use oracle::generate::large;
+use oracle::hooks::Times;
+use oracle::job::Job;
+use oracle::planner::AdaptiveParams;
+use oracle::run::{Plan, run};
+use oracle::switches::{self, Switches};
+use oracle::vec2::v2;
+use std::sync::Mutex;
+use std::time::Duration;
+
+/// A job is planned by each side in turn, at most so often, and not again after so many seconds.
+const ROUNDS: usize = 3;
+const ENOUGH: f64 = 8.0;
+
+/// Phases of a plan.
+const PHASES: [&str; 6] = ["distance", "field", "curves", "passes", "ways", "rest"];
+
+/// Seconds of a side, in all and by phase.
+#[derive(Clone, Copy, Default)]
+struct Spent {
+    all: f64,
+    phases: [f64; PHASES.len()],
+}
+
+impl Spent {
+    /// Seconds in all, by the shares of the phases.
+    fn new(all: f64, shares: [f64; PHASES.len()]) -> Spent {
+        Spent { all, phases: shares.map(|share| share * all) }
+    }
+}
+
+/// As printed, with a rim table, proved.
+type Sides = [Spent; 3];
+
+struct Timed {
+    name: String,
+    cells: usize,
+    sides: Sides,
+}
+
+/// The phases' shares of a plan of the Rust. `rest` is its setup, smoothing, the choice of a piece, entries and report.
+fn rust_shares(t: &Times, all: Duration) -> [f64; PHASES.len()] {
+    let passes = t.blend + t.simulate;
+    let rest = all.saturating_sub(t.distance + t.field + t.contours + passes + t.link);
+    [t.distance, t.field, t.contours, passes, t.link, rest].map(|d| d.as_secs_f64() / all.as_secs_f64())
+}
+
+fn rust(job: &Job, plain_rim: bool) -> (Plan, Spent) {
+    switches::set(Switches { plain_rim, buckets: true, ..Switches::default() });
+    let (start, wall) = (cpu(), std::time::Instant::now());
+    let outcome = run(job, false);
+    let (all, wall) = ((cpu() - start) / 1e9, wall.elapsed());
+    (
+        outcome.answer.expect("the larger jobs are accepted"),
+        Spent::new(all, rust_shares(&outcome.times, wall)),
+    )
+}
+
+/// By what the planner, and a piece that is cut, have called. The field is compiled into the planner.
+fn proved_shares(met: &Met) -> [f64; PHASES.len()] {
+    let mut shares = [0.0; PHASES.len()];
+    for (at, [called, below]) in met {
+        let phase = match (called.as_str(), below.as_str()) {
+            ("distance::transform", _) => 0,
+            ("", _) if at == FRAMES[0] => 1,
+            ("tracing::curves::trace", _) => 2,
+            (
+                "rounds::round::cut_next",
+                "distance::transform" | "distance::limits::limit_of" | "links::path::clear",
+            ) => 4,
+            ("rounds::round::cut_next", _) => 3,
+            _ => 5,
+        };
+        shares[phase] += 1.0 / met.len() as f64;
+    }
+    shares
+}
+
+/// What the library is lent, written to once.
+struct Lent {
+    raw: Raw,
+    vertices: Vec<u64>,
+    bytes: Vec<u8>,
+    words: Vec<u32>,
+    singles: Vec<u32>,
+    doubles: Vec<u64>,
+    rows: Vec<u32>,
+    triples: Vec<u64>,
+}
+
+impl Lent {
+    fn new(job: &Job) -> Lent {
+        let raw = Raw::new(job);
+        let [bytes, words, singles, doubles, rows, triples] = raw.lent;
+        Lent {
+            vertices: raw.vertices.iter().map(|x| x.to_bits()).collect(),
+            raw,
+            bytes: vec![1; bytes],
+            words: vec![1; words],
+            singles: vec![1; singles],
+            doubles: vec![1; doubles],
+            rows: vec![1; rows],
+            triples: vec![1; triples],
+        }
+    }
+
+    fn plan(&mut self) -> Answer {
+        let lent = Slices {
+            vertices: &mut self.vertices,
+            lengths: &mut self.raw.lengths,
+            regions: &mut self.raw.regions,
+            bytes: &mut self.bytes,
+            words: &mut self.words,
+            singles: &mut self.singles,
+            doubles: &mut self.doubles,
+            rows: &mut self.rows,
+            triples: &mut self.triples,
+        };
+        adaptive_clear(&self.raw.params, self.raw.whole, lent)
+    }
+
+    /// The plan is the Rust's.
+    fn holds(&self, answer: &Answer, plan: &Plan) -> bool {
+        let triples: Vec<u64> = plan.triples.iter().flatten().map(|x| x.to_bits()).collect();
+        answer.refused == 0
+            && answer.report.numbers() == Report::new(&plan.report).numbers()
+            && self.rows.starts_with(&plan.rows.concat())
+            && self.triples.starts_with(&triples)
+            && self.bytes.iter().zip(&plan.map).all(|(byte, stock)| *byte == *stock as u8)
+    }
+}
+
+fn proved(lent: &mut Lent) -> (Answer, Spent) {
+    let (mut answer, mut all) = (None, 0.0);
+    let met = sampled(|| {
+        let start = cpu();
+        answer = Some(lent.plan());
+        all = (cpu() - start) / 1e9;
+    });
+    (answer.unwrap(), Spent::new(all, proved_shares(&met)))
+}
+
+/// The least times of each side, which all have the same plan.
+fn timed(name: &str, job: &Job) -> Timed {
+    let job = Job { lent_rows: 20_000, lent_triples: 1_000_000, ..job.clone() };
+    let mut lent = Lent::new(&job);
+    let mut best: Option<Sides> = None;
+    let (mut cells, mut spent) = (0, 0.0);
+    for _ in 0..ROUNDS {
+        let (printed, first) = rust(&job, true);
+        let (plan, second) = rust(&job, false);
+        let (answer, third) = proved(&mut lent);
+        assert!(printed.rows == plan.rows && lent.holds(&answer, &plan), "{name}: the plans differ");
+        cells = plan.nx * plan.ny;
+        let sides = [first, second, third];
+        spent += sides.iter().map(|s| s.all).sum::<f64>();
+        let least = |a: Spent, b: Spent| if b.all < a.all { b } else { a };
+        best = Some(best.map_or(sides, |b| std::array::from_fn(|k| least(b[k], sides[k]))));
+        if spent > ENOUGH {
+            break;
+        }
+    }
+    Timed { name: name.into(), cells, sides: best.unwrap() }
+}
+
+/// Times jobs on so many threads, those that take longest first; in their own order.
+fn all(jobs: Vec<(String, Job)>, threads: usize) -> Vec<Timed> {
+    let weight = |(_, job): &(String, Job)| -> usize { Raw::new(job).lent[0] };
+    let mut order: Vec<usize> = (0..jobs.len()).collect();
+    order.sort_by_key(|&k| weight(&jobs[k]));
+    let (left, done) = (Mutex::new(order), Mutex::new(Vec::new()));
+    let work = || {
+        while let Some(k) = { left.lock().unwrap().pop() } {
+            let one = timed(&jobs[k].0, &jobs[k].1);
+            eprintln!("{} {:.2?}", one.name, one.sides.map(|s| s.all));
+            done.lock().unwrap().push((k, one));
+        }
+    };
+    std::thread::scope(|s| {
+        for _ in 0..threads {
+            s.spawn(work);
+        }
+    });
+    let mut done = done.into_inner().unwrap();
+    done.sort_by_key(|(k, _)| *k);
+    done.into_iter().map(|(_, one)| one).collect()
+}
+
+fn heads(titles: &[&str]) {
+    println!("| {} |", titles.join(" | "));
+    println!("|---|{}", "---:|".repeat(titles.len() - 1));
+}
+
+fn print_times(jobs: &[Timed]) {
+    heads(&[
+        "job",
+        "cells",
+        "printed, s",
+        "rim table, s",
+        "proved, s",
+        "printed / proved",
+        "rim table / proved",
+    ]);
+    for Timed { name, cells, sides } in jobs {
+        let [printed, table, proved] = sides.map(|s| s.all);
+        let (first, second) = (printed / proved, table / proved);
+        println!("| {name} | {cells} | {printed:.2} | {table:.2} | {proved:.2} | {first:.2} | {second:.2} |");
+    }
+}
+
+/// Seconds with the rim table, and proved, by phase, and the phase's share of the proved.
+fn print_phases(jobs: &[Timed]) {
+    let titles: Vec<String> = PHASES.iter().map(|phase| format!("{phase}, s")).collect();
+    heads(&[&["job"][..], &titles.iter().map(String::as_str).collect::<Vec<_>>()].concat());
+    for Timed { name, sides, .. } in jobs {
+        let [_, table, proved] = sides;
+        let cell = |k: usize| {
+            let (rust, own) = (table.phases[k], proved.phases[k]);
+            format!(
+                "{rust:.2} ({:.0} %) : {own:.2} ({:.0} %)",
+                100.0 * rust / table.all,
+                100.0 * own / proved.all
+            )
+        };
+        let cells: Vec<String> = (0..PHASES.len()).map(cell).collect();
+        println!("| {name} | {} |", cells.join(" | "));
+    }
+}
+
+/// A square pocket, tool 6, engagement 60.
+fn square(side: f64, cell: f64) -> (String, Job) {
+    let mut params = AdaptiveParams::new(6.0, 0.0, -6.0, 1000.0);
+    params.max_engagement_deg = 60.0;
+    params.resolution = Some(cell);
+    let mut job = Job::new(params);
+    job.pocket = vec![4];
+    job.verts = vec![v2(0.0, 0.0), v2(side, 0.0), v2(side, side), v2(0.0, side)];
+    (format!("{side} mm, cell {cell}"), job)
+}
+
+/// The machine, as it tells itself.
+fn machine() -> String {
+    let read = |file: &str| std::fs::read_to_string(file).unwrap_or_default();
+    let cpu = read("/proc/cpuinfo");
+    let model = cpu.lines().find_map(|l| l.strip_prefix("model name")).unwrap_or(": unknown");
+    let cores = std::thread::available_parallelism().map_or(1, usize::from);
+    let load = read("/proc/loadavg").split(' ').next().unwrap_or("?").to_string();
+    format!("{}, {cores} cores, load {load} at the end", model.trim_start_matches([' ', '\t', ':']))
+}
+
+fn main() {
+    let words: Vec<String> = std::env::args().skip(1).collect();
+    let threads = match words.iter().map(String::as_str).collect::<Vec<_>>()[..] {
+        [] => 2,
+        ["--threads", n] => n.parse().expect("a number of threads"),
+        _ => panic!("bench_plans [--threads T]"),
+    };
+    let named = large().into_iter().map(|(name, job)| (name.to_string(), job)).collect();
+    let jobs = all(named, threads);
+    let finer = all([0.1, 0.07, 0.05, 0.035].map(|cell| square(18.0, cell)).to_vec(), threads);
+    let wider = all([9.0, 18.0, 27.0, 36.0].map(|side| square(side, 0.1)).to_vec(), threads);
+    println!("{}; {threads} threads.\n\n### The larger jobs\n", machine());
+    print_times(&jobs);
+    println!("\n### By phase: Rust with a rim table : proved\n");
+    print_phases(&jobs);
+    println!("\n### Finer cells, the same pocket\n");
+    print_times(&finer);
+    println!("\n### Larger pockets, the same cell\n");
+    print_times(&wider);
+}
