@@ -120,12 +120,16 @@ impl RawJob {
         self.grid().filter(fits).map_or(0, |g| g.cells())
     }
 
-    /// Plans, and lends more rows or triples while 16 or 17 says that they were too few.
     pub fn plan(&self) -> Result<Plan, Refusal> {
+        self.plan_from(FIRST_ROWS, FIRST_TRIPLES.max(self.cells()))
+    }
+
+    /// Plans with so many rows and triples, one at least, and with twice as many while 16 or 17 says that they were too
+    /// few: a plan that fits is the same however many are lent.
+    fn plan_from(&self, rows: usize, triples: usize) -> Result<Plan, Refusal> {
         let most_rows = self.lent.rows.unwrap_or(MOST_ROWS).min(MOST_ROWS);
         let most_triples = self.lent.triples.unwrap_or(MOST_TRIPLES).min(MOST_TRIPLES);
-        let mut rows = FIRST_ROWS.min(most_rows);
-        let mut triples = FIRST_TRIPLES.max(self.cells()).min(most_triples);
+        let (mut rows, mut triples) = (rows.min(most_rows), triples.min(most_triples));
         loop {
             match self.plan_with(rows, triples) {
                 Err(Refusal { number: 16 }) if triples < most_triples => {
@@ -187,5 +191,23 @@ impl List {
         let triples = self.rows.last().map_or(0, |&[_, first, count]| first as usize + count as usize);
         self.triples.truncate(triples);
         self.triples.shrink_to_fit();
+    }
+}
+
+#[cfg(test)]
+mod tests {
+    use crate::{Job, Params, Refusal, Shape};
+
+    #[test]
+    fn more_is_lent_until_the_plan_fits() {
+        let square = Shape::new(&[[0.0, 0.0], [9.0, 0.0], [9.0, 9.0], [0.0, 9.0]]);
+        let params = Params { max_engagement_deg: 60.0, resolution: Some(0.1), ..Params::default() };
+        let mut raw = Job::new(params, square).raw();
+        let plan = raw.plan().unwrap();
+        assert_eq!(raw.plan_from(1, 1).as_ref(), Ok(&plan));
+        (raw.lent.rows, raw.lent.triples) = (Some(plan.rows.len() - 1), None);
+        assert_eq!(raw.plan_from(1, 1), Err(Refusal { number: 17 }));
+        (raw.lent.rows, raw.lent.triples) = (None, Some(plan.triples.len() - 1));
+        assert_eq!(raw.plan_from(1, 1), Err(Refusal { number: 16 }));
     }
 }

@@ -6,7 +6,7 @@ use pocket::Chunk;
 use std::fmt::Write;
 
 /// The least height of a picture, for the legend to fit.
-pub const HEIGHT: f64 = 600.0;
+pub const HEIGHT: f64 = 650.0;
 
 /// The bar of colours.
 const TOP: f64 = 116.0;
@@ -16,12 +16,15 @@ const WIDTH: f64 = 22.0;
 /// From one sign to the next.
 const LINE: f64 = 23.0;
 
+/// The largest radius of a tool that is shown.
+const LARGEST: f64 = 40.0;
+
 impl Drawing<'_> {
     pub(super) fn legend(&mut self) {
         let x = self.paper.left + self.paper.width + 28.0;
         let bar = self.bar(x);
         self.put(bar);
-        let signs = self.signs(x, TOP + BAR + 44.0);
+        let signs = self.signs(x, TOP + BAR + 56.0);
         self.put(signs);
     }
 
@@ -64,17 +67,13 @@ impl Drawing<'_> {
             );
         }
         let greatest = self.scene.plan.report.planned_max_engagement_deg;
-        if greatest > 0.0 {
-            let y = at(greatest);
-            let _ = write!(
-                s,
-                "<path d=\"M{} {}l-7 -4v8z\"/><text class=\"small\" x=\"{}\" y=\"{}\">greatest {}</text>",
-                short(x - 1.0),
-                short(y),
-                short(x + WIDTH + 72.0),
-                short(y + 4.0),
-                decimal(greatest, 1)
-            );
+        for (y, text) in [(at(greatest), None), (TOP + BAR + 22.0, Some(greatest))] {
+            let arrow = format!("<path d=\"M{} {}l-7 -4v8z\"/>", short(x - 1.0), short(y));
+            let text = text.map_or(String::new(), |degrees| {
+                let (x, y, degrees) = (short(x + 6.0), short(y + 4.0), decimal(degrees, 1));
+                format!("<text x=\"{x}\" y=\"{y}\">greatest planned {degrees}</text>")
+            });
+            let _ = writeln!(s, "{arrow}{text}");
         }
         s
     }
@@ -97,7 +96,7 @@ impl Drawing<'_> {
             ("<rect class=\"left\" x=\"3\" y=\"-8\" width=\"22\" height=\"16\"/>", "stock left".into()),
             (pass.as_str(), format!("pass ({})", count(r.passes))),
             ("<path class=\"link\" d=\"M0 0h28\"/>", format!("link at depth ({})", count(r.links))),
-            ("<path class=\"plunge\" d=\"M14 5l-5 -9h10z\"/>", format!("plunge ({})", count(plunges))),
+            ("<path class=\"plunge\" d=\"M14 3l-3 -5.5h6z\"/>", format!("plunge ({})", count(plunges))),
             (
                 "<circle class=\"helix\" cx=\"14\" r=\"4\"/><circle class=\"disk\" cx=\"14\" r=\"9\"/>",
                 format!("helix and its disk ({})", count(r.helix_entries)),
@@ -112,6 +111,21 @@ impl Drawing<'_> {
                 short(x)
             );
         }
-        s
+        s + &self.tool(x, top + signs.len() as f64 * LINE)
+    }
+
+    /// The tool to scale, where it is not too large for the legend.
+    fn tool(&self, x: f64, top: f64) -> String {
+        let diameter = self.scene.job.params.tool_diameter;
+        let radius = diameter / 2.0 * self.paper.scale;
+        if radius > LARGEST {
+            return String::new();
+        }
+        let (cx, cy) = (short(x + radius.max(14.0)), short(top + radius));
+        let (tx, ty) = (short(x + 2.0 * radius.max(14.0) + 10.0), short(top + radius + 4.0));
+        format!(
+            "<circle class=\"tool\" cx=\"{cx}\" cy=\"{cy}\" r=\"{}\"/><text x=\"{tx}\" y=\"{ty}\">tool to scale</text>",
+            short(radius)
+        )
     }
 }

@@ -19,7 +19,10 @@ const LEGEND: f64 = 236.0;
 const FOOT: f64 = 56.0;
 
 /// How far a thinned line may be from its points, in pixels.
-const SLACK: f64 = 0.08;
+const SLACK: f64 = 0.15;
+
+/// The least length of a pass in one colour, that of the greatest contact on it, in pixels.
+const SHORTEST: f64 = 3.0;
 
 /// Colours and patterns of what is drawn; the legend shows them too.
 const STYLE: &str = "\
@@ -34,8 +37,8 @@ text{font-family:Helvetica,Arial,sans-serif;font-size:12px;fill:#222}
 .wall{fill:none;stroke:#222;stroke-width:1.6;stroke-linejoin:round}
 .island{fill:url(#hatch);stroke:#222;stroke-width:1.6;stroke-linejoin:round}
 .pass{fill:none;stroke-linejoin:round;stroke-linecap:round}
-.link{fill:none;stroke:#2b2b2b;stroke-width:.7;stroke-opacity:.65;stroke-dasharray:3 2}
-.plunge{fill:#fff;stroke:#000;stroke-width:1.2;stroke-linejoin:round}
+.link{fill:none;stroke:#2b2b2b;stroke-width:.7;stroke-opacity:.5;stroke-dasharray:3 2}
+.plunge{fill:#fff;stroke:#000;stroke-width:.9;stroke-linejoin:round}
 .helix{fill:none;stroke:#000;stroke-width:2}
 .disk{fill:none;stroke:#000;stroke-width:1;stroke-dasharray:1 2.5}
 .tool{fill:#fff;stroke:#222;stroke-width:1.2}
@@ -60,6 +63,18 @@ pub fn svg(scene: &Scene) -> String {
     let mut drawing = Drawing { scene, paper, scale, svg: String::new() };
     drawing.all();
     drawing.svg
+}
+
+/// The end of the part of a pass that begins here: the last point, or the first that is far enough along it.
+fn part(spots: &[Spot], from: usize) -> usize {
+    let mut length = 0.0;
+    for k in from + 1..spots.len() {
+        length += (spots[k][0] - spots[k - 1][0]).hypot(spots[k][1] - spots[k - 1][1]);
+        if length >= SHORTEST {
+            return k;
+        }
+    }
+    spots.len() - 1
 }
 
 impl Drawing<'_> {
@@ -256,16 +271,23 @@ impl Drawing<'_> {
         (bite * self.paper.scale / 3.0).clamp(0.5, 1.7)
     }
 
+    /// Adds a pass to the paths of its steps.
     fn pass(&self, cuts: &[Cut], paths: &mut [Path]) {
-        let step = |cut: &Cut| self.scale.step_of(cut.contact.to_degrees());
+        let spots: Vec<Spot> = cuts.iter().map(|cut| self.paper.spot(cut.at)).collect();
+        let mut parts: Vec<(usize, usize, usize)> = Vec::new();
         let mut from = 0;
         while from + 1 < cuts.len() {
-            let now = step(&cuts[from + 1]);
-            let length = cuts[from + 1..].iter().take_while(|cut| step(cut) == now).count();
-            let spots: Vec<Spot> =
-                cuts[from..=from + length].iter().map(|cut| self.paper.spot(cut.at)).collect();
-            paths[now].line(&thin(&spots, SLACK));
-            from += length;
+            let to = part(&spots, from);
+            let greatest = cuts[from + 1..=to].iter().map(|cut| cut.contact).fold(0.0, f64::max);
+            let step = self.scale.step_of(greatest.to_degrees());
+            match parts.last_mut().filter(|last| last.2 == step) {
+                Some(last) => last.1 = to,
+                None => parts.push((from, to, step)),
+            }
+            from = to;
+        }
+        for (from, to, step) in parts {
+            paths[step].line(&thin(&spots[from..=to], SLACK));
         }
     }
 
@@ -323,7 +345,7 @@ impl Drawing<'_> {
         let [x, y] = self.paper.spot(at).map(short);
         let [px, py] = [at.x, at.y].map(|v| words::decimal(v, 3));
         format!(
-            "<path class=\"plunge\" d=\"M{x} {y}l-5 -9h10z\"><title>plunge at ({px}, {py})</title></path>\n"
+            "<path class=\"plunge\" d=\"M{x} {y}l-3 -5.5h6z\"><title>plunge at ({px}, {py})</title></path>\n"
         )
     }
 }

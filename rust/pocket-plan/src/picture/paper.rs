@@ -40,19 +40,21 @@ impl Paper {
     }
 }
 
-/// A number with two decimals at most, and no needless zero.
+/// A number to the nearest tenth.
 pub fn short(v: f64) -> String {
-    hundredths((v * 100.0).round() as i64)
+    tenths(rounded(v))
 }
 
-fn hundredths(v: i64) -> String {
+fn rounded(v: f64) -> i64 {
+    (v * 10.0).round() as i64
+}
+
+fn tenths(v: i64) -> String {
     let sign = if v < 0 { "-" } else { "" };
-    let (whole, part) = (v.unsigned_abs() / 100, v.unsigned_abs() % 100);
-    let whole = if whole == 0 && part != 0 { String::new() } else { whole.to_string() };
-    match part {
-        0 => format!("{sign}{whole}"),
-        p if p % 10 == 0 => format!("{sign}{whole}.{}", p / 10),
-        p => format!("{sign}{whole}.{p:02}"),
+    match (v.unsigned_abs() / 10, v.unsigned_abs() % 10) {
+        (whole, 0) => format!("{sign}{whole}"),
+        (0, part) => format!("{sign}.{part}"),
+        (whole, part) => format!("{sign}{whole}.{part}"),
     }
 }
 
@@ -62,19 +64,18 @@ pub struct Path(String);
 
 impl Path {
     pub fn line(&mut self, points: &[Spot]) {
-        let mut rounded = points.iter().map(|p| p.map(|v| (v * 100.0).round() as i64));
-        let Some(mut last) = rounded.next() else { return };
-        let _ = write!(self.0, "M{} {}", hundredths(last[0]), hundredths(last[1]));
+        let mut points = points.iter().map(|p| p.map(rounded));
+        let Some(mut last) = points.next() else { return };
+        let _ = write!(self.0, "M{} {}", tenths(last[0]), tenths(last[1]));
         let mut mark = "l";
-        for next in rounded {
+        for next in points {
             if next != last {
-                let _ = write!(
-                    self.0,
-                    "{mark}{} {}",
-                    hundredths(next[0] - last[0]),
-                    hundredths(next[1] - last[1])
-                );
-                (last, mark) = (next, " ");
+                // A minus parts two numbers too.
+                let [x, y] = [0, 1].map(|k| tenths(next[k] - last[k]));
+                let [before, between] = [&x, &y].map(|v| if v.starts_with('-') { "" } else { " " });
+                let before = if mark.is_empty() { before } else { mark };
+                let _ = write!(self.0, "{before}{x}{between}{y}");
+                (last, mark) = (next, "");
             }
         }
     }
