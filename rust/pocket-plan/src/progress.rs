@@ -9,9 +9,6 @@ use std::time::{Duration, Instant};
 /// How often the time is told.
 const EVERY: Duration = Duration::from_secs(1);
 
-/// Room for what planning calls.
-const STACK: usize = 64 << 20;
-
 /// The answer to a job, and the time it took. The time is told on a terminal, else where `told` asks for it.
 pub fn plan(job: &RawJob, told: bool) -> (Result<Plan, Refusal>, Duration) {
     let start = Instant::now();
@@ -33,11 +30,10 @@ fn while_told<T: Send>(work: impl FnOnce() -> T + Send, every: Duration, tell: i
     let start = Instant::now();
     thread::scope(|scope| {
         let (done, waiting) = channel();
-        let working = thread::Builder::new().stack_size(STACK).spawn_scoped(scope, move || {
+        scope.spawn(move || {
             // The other end waits until this one is gone.
             let _ = done.send(work());
         });
-        working.expect("a thread can be started");
         loop {
             match waiting.recv_timeout(every) {
                 Ok(answer) => return answer,
