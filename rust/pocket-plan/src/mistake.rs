@@ -55,12 +55,12 @@ pub fn quoted(word: &str) -> String {
     format!("`{}{dots}`", shown(word, 0))
 }
 
-/// The name that a wrong one was probably meant to be.
+/// The name that a wrong one was probably meant to be: fewer than half of its letters are wrong.
 pub fn meant<'a>(wrong: &str, names: impl IntoIterator<Item = &'a str>) -> Option<&'a str> {
     let scored = names.into_iter().map(|name| (edits(wrong, name), name));
     scored
         .min_by_key(|&(edits, _)| edits)
-        .filter(|&(edits, name)| edits <= name.len() / 3)
+        .filter(|&(edits, _)| 2 * edits < wrong.chars().count())
         .map(|(_, name)| name)
 }
 

@@ -68,7 +68,19 @@ pub fn options(words: impl IntoIterator<Item = OsString>) -> Result<Asked, Strin
         None => "expected a job file, found none".into(),
     })?;
     options.job = (job != "-").then(|| job.into());
+    distinct(&options)?;
     Ok(Asked::Plan(options))
+}
+
+/// No output is the job file or another output.
+fn distinct(options: &Options) -> Result<(), String> {
+    let outputs = options.outputs.iter().map(|output| &output.file);
+    let mut files: Vec<&PathBuf> = options.job.iter().chain(outputs).collect();
+    files.sort();
+    match files.windows(2).find(|pair| pair[0] == pair[1]) {
+        Some(pair) => Err(format!("expected different files, found {} twice", pair[0].display())),
+        None => Ok(()),
+    }
 }
 
 fn unknown(name: &str) -> String {

@@ -2,51 +2,65 @@
 use crate::words::many;
 use pocket::{Plan, RawJob, Refusal};
 use std::io::{IsTerminal, Write, stderr};
-use std::sync::mpsc;
+use std::sync::mpsc::{RecvTimeoutError, channel};
 use std::thread;
 use std::time::{Duration, Instant};
 
 /// How often the time is told.
-const TOLD: Duration = Duration::from_secs(1);
+const EVERY: Duration = Duration::from_secs(1);
 
-/// Room for what planning calls.
-const STACK: usize = 64 << 20;
-
-/// The answer to a job, and the time it took; `told` tells the time also where there is no terminal.
+/// The answer to a job, and the time it took. The time is told on a terminal, else where `told` asks for it.
 pub fn plan(job: &RawJob, told: bool) -> (Result<Plan, Refusal>, Duration) {
     let start = Instant::now();
-    let answer = thread::scope(|scope| {
-        let (done, waiting) = mpsc::channel();
-        let work = move || {
-            // The other end is only gone where this one is not waited for.
-            let _ = done.send(job.plan());
-        };
-        let planning = thread::Builder::new().stack_size(STACK).spawn_scoped(scope, work);
-        planning.expect("a thread can be started");
-        wait(&waiting, &start, job.cells(), told)
-    });
+    let terminal = stderr().is_terminal();
+    let cells = many(job.cells(), "cell");
+    let tell = |seconds: u64| {
+        let line = format!("planning {cells}: {seconds} s");
+        let _ = if terminal { write!(stderr(), "\r{line}") } else { writeln!(stderr(), "{line}") };
+    };
+    let answer = if terminal || told { while_told(|| job.plan(), EVERY, tell) } else { job.plan() };
+    if terminal {
+        let _ = write!(stderr(), "\r\x1b[K");
+    }
     (answer, start.elapsed())
 }
 
-fn wait<T>(waiting: &mpsc::Receiver<T>, start: &Instant, cells: usize, told: bool) -> T {
-    let terminal = stderr().is_terminal();
-    let (before, after) = if terminal { ("\r", "") } else { ("", "\n") };
-    let mut shown = false;
-    loop {
-        match waiting.recv_timeout(TOLD) {
-            Ok(answer) => {
-                if shown && terminal {
-                    let _ = write!(stderr(), "\r\x1b[K");
-                }
-                return answer;
+/// Works on a thread of its own, and tells the whole seconds so far now and then.
+fn while_told<T: Send>(work: impl FnOnce() -> T + Send, every: Duration, tell: impl Fn(u64)) -> T {
+    let start = Instant::now();
+    thread::scope(|scope| {
+        let (done, waiting) = channel();
+        scope.spawn(move || {
+            // The other end waits until this one is gone.
+            let _ = done.send(work());
+        });
+        loop {
+            match waiting.recv_timeout(every) {
+                Ok(answer) => return answer,
+                Err(RecvTimeoutError::Timeout) => tell(start.elapsed().as_secs()),
+                Err(RecvTimeoutError::Disconnected) => panic!("the work ended without an answer"),
             }
-            Err(mpsc::RecvTimeoutError::Timeout) if terminal || told => {
-                shown = true;
-                let seconds = start.elapsed().as_secs();
-                let _ = write!(stderr(), "{before}planning {}: {seconds} s{after}", many(cells, "cell"));
-            }
-            Err(mpsc::RecvTimeoutError::Timeout) => {}
-            Err(mpsc::RecvTimeoutError::Disconnected) => panic!("planning ended without an answer"),
         }
+    })
+}
+
+#[cfg(test)]
+mod tests {
+    use super::*;
+    use std::cell::Cell;
+
+    #[test]
+    fn time_is_told_while_it_works() {
+        let told = Cell::new(0);
+        let tell = |seconds: u64| told.set(told.get() + 1 + 1000 * seconds);
+        let slow = || {
+            thread::sleep(Duration::from_millis(200));
+            7
+        };
+        assert_eq!(while_told(slow, Duration::from_millis(20), tell), 7);
+        assert!((2..=10).contains(&told.get()), "{}", told.get());
+        told.set(0);
+        assert_eq!(while_told(|| 7, Duration::from_secs(60), tell), 7);
+        assert_eq!(told.get(), 0);
     }
 }

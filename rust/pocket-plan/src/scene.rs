@@ -24,7 +24,7 @@ impl Scene {
 }
 
 /// The pocket's cells, those of the stock regions where there is a list of them.
-fn starting_stock(grid: Grid, pocket: &Shape, stock: Option<&[Shape]>) -> Result<Map, Refusal> {
+pub fn starting_stock(grid: Grid, pocket: &Shape, stock: Option<&[Shape]>) -> Result<Map, Refusal> {
     let mut map = Map::new(grid)?;
     map.fill_region(pocket)?;
     if let Some(regions) = stock {

@@ -1,4 +1,5 @@
 //! Why a job is refused: the value that fails the question, and what would help.
+use crate::scene::starting_stock;
 use crate::words::{count, decimal};
 use pocket::{MOST_ROWS, MOST_TRIPLES, Map, Params, RawJob, Refusal, workspace_needed};
 
@@ -71,7 +72,7 @@ fn span(p: &Params) -> Option<String> {
         (p.stock_to_leave > 100.0, format!("leave is {} mm; give at most 100 mm", p.stock_to_leave)),
         (helix > 1000.0, format!("helix is {helix} mm; give at most 1000 mm, or none")),
         (
-            !(steps <= 10_000.0),
+            steps > 10_000.0,
             format!("(top - bottom)/step_down is {steps}; give a larger step_down or a smaller depth"),
         ),
     ];
@@ -102,7 +103,7 @@ fn loops(job: &RawJob) -> Option<String> {
     let regions = if job.whole { 0 } else { job.regions.len().saturating_sub(1) };
     let vertices = job.vertices.len() / 2;
     let sum: u64 = job.lengths.iter().map(|&n| u64::from(n)).sum();
-    let far = job.vertices.iter().position(|v| !(v.abs() <= 10_000.0));
+    let far = job.vertices.iter().position(|v| !v.is_finite() || v.abs() > 10_000.0);
     if islands > 64 {
         Some(format!("a region has {islands} islands; it may have 64: plan it in parts"))
     } else if regions > 16 {
@@ -155,22 +156,39 @@ fn too_few(name: &str, lent: Option<usize>, most: usize) -> String {
     }
 }
 
-/// Question 18: how wide the pocket is where it is widest, and what an entry takes.
+/// Question 18: how wide the pocket is around its stock, and what an entry takes.
 fn room(job: &RawJob) -> Option<String> {
-    let shapes = job.shapes()?;
-    let mut map = Map::new(job.grid()?).ok()?;
-    map.fill_region(shapes.first()?).ok()?;
-    let to_wall = map.distance_map(0).ok()?.distances.into_iter().fold(0.0, f64::max);
     let p = &job.params;
     let (d, leave) = (p.tool_diameter, p.stock_to_leave);
+    if let Some(helix) = p.helix_radius.filter(|radius| *radius < 0.1 * d) {
+        let least = decimal(0.1 * d, 6);
+        return Some(format!(
+            "helix is {helix} mm, and an entry has a radius of at least {least} mm, a tenth of the tool"
+        ));
+    }
     let needs = 1.2 * d + 2.0 * leave + 4.0 * p.cell();
-    let widest =
-        format!("the pocket is about {} mm across where it is widest", decimal(2.0 * to_wall * p.cell(), 2));
+    let widest = widest(job)?;
+    let told = format!("the pocket is about {} mm wide at its widest place with stock", decimal(widest, 2));
     let entry = format!(
-        "an entry by helix needs about {} mm (1.2 diameters of {d} mm, twice leave of {leave} mm, 4 cells) where there is stock",
+        "a helix to enter by takes about {} mm: 1.2 times {d} mm of tool, twice {leave} mm to leave, 4 cells",
         decimal(needs, 2)
     );
-    Some(format!(
-        "{widest}, and {entry}; a smaller tool or less to leave would help, or stock that a pass can begin beside"
-    ))
+    let help = "a smaller tool would help, or a side that is open";
+    Some(if widest < needs {
+        format!("{told}, and {entry}; {help}")
+    } else {
+        format!("{told}, but the tool reaches no stock; {help}")
+    })
+}
+
+/// Twice the farthest from the walls that a cell of the starting stock lies.
+fn widest(job: &RawJob) -> Option<f64> {
+    let shapes = job.shapes()?;
+    let (pocket, stock) = shapes.split_first()?;
+    let mut inside = Map::new(job.grid()?).ok()?;
+    inside.fill_region(pocket).ok()?;
+    let start = starting_stock(job.grid()?, pocket, (!job.whole).then_some(stock)).ok()?;
+    let walls = inside.distance_map(0).ok()?.distances;
+    let farthest = start.bytes.iter().zip(walls).filter(|(byte, _)| **byte == 1).map(|(_, far)| far);
+    Some(2.0 * farthest.fold(0.0, f64::max) * job.params.cell())
 }

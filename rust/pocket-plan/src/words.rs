@@ -40,7 +40,8 @@ pub fn report(scene: &Scene) -> String {
     let (p, plan) = (&scene.job.params, &scene.plan);
     let (r, grid) = (&plan.report, &plan.grid);
     let starting = r.starting_cells as f64 * grid.cell * grid.cell;
-    let layers = format!("{}, from Z {} to {} mm", many(r.layers, "layer"), p.top, p.bottom);
+    let layers =
+        format!("{} of {} mm at most, Z {} to {} mm", many(r.layers, "layer"), p.step_down, p.top, p.bottom);
     let mut lines = vec![
         ("tool", format!("{} mm, {} mm left on walls", p.tool_diameter, p.stock_to_leave)),
         (
@@ -51,7 +52,7 @@ pub fn report(scene: &Scene) -> String {
                 p.max_engagement_deg
             ),
         ),
-        ("depth", format!("{layers}, each cut the same way")),
+        ("depth", layers),
         (
             "starting stock",
             format!("{starting} mm2, {}", many(r.starting_cells, "cell"), starting = decimal(starting, 2)),

@@ -134,9 +134,10 @@ impl Drawing<'_> {
         let starting = r.starting_cells as f64 * plan.grid.cell * plan.grid.cell;
         let areas = [r.removed_area, starting, r.remaining_reachable_area, r.unreachable_area];
         let [removed, starting, left, out] = areas.map(|a| words::decimal(a, 1));
+        let each = if r.layers == 1 { String::new() } else { format!(" in each of {} layers", r.layers) };
+        let rest = format!("left in reach {left} mm\u{b2}, out of reach {out} mm\u{b2}");
         self.put(format!(
-            "<text class=\"small\" x=\"{x}\" y=\"54\">removed {removed} of {starting} mm\u{b2} in each of {}; left in reach {left} mm\u{b2}, out of reach {out} mm\u{b2}</text>",
-            words::many(r.layers, "layer")
+            "<text class=\"small\" x=\"{x}\" y=\"54\">removed {removed} of {starting} mm\u{b2}{each}; {rest}</text>"
         ));
     }
 
@@ -155,7 +156,7 @@ impl Drawing<'_> {
         let (top, bottom) = (short(p.top), short(p.top + p.height));
         let mut s = String::new();
         for x in ticks(p.x, p.width) {
-            let (at, label) = (short(p.across(x)), words::decimal(x + 0.0, decimals));
+            let (at, label) = (short(p.across(x)), words::decimal(x, decimals));
             let _ = writeln!(
                 s,
                 "<path class=\"grid\" d=\"M{at} {top}V{bottom}\"/><path class=\"tick\" d=\"M{at} {bottom}v5\"/>"
@@ -167,7 +168,7 @@ impl Drawing<'_> {
             );
         }
         for y in ticks(p.y, p.height) {
-            let (at, label) = (short(p.down(y)), words::decimal(y + 0.0, decimals));
+            let (at, label) = (short(p.down(y)), words::decimal(y, decimals));
             let _ = writeln!(
                 s,
                 "<path class=\"grid\" d=\"M{left} {at}H{right}\"/><path class=\"tick\" d=\"M{left} {at}h-5\"/>"
