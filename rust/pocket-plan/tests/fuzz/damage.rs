@@ -85,11 +85,12 @@ fn change_lines(r: &mut Rng, text: &[u8]) -> Vec<u8> {
 
 /// A word replaced.
 fn change_word(r: &mut Rng, text: &[u8]) -> Vec<u8> {
-    let mut words: Vec<Vec<u8>> = text.split_inclusive(u8::is_ascii_whitespace).map(<[u8]>::to_vec).collect();
+    let mut words: Vec<&[u8]> = text.split_inclusive(u8::is_ascii_whitespace).collect();
     let k = below(r, words.len());
-    let space = words[k].last().copied().filter(u8::is_ascii_whitespace);
-    words[k] = r.pick(&WORDS).as_bytes().to_vec();
-    words[k].extend(space);
+    let Some(old) = words.get(k) else { return text.to_vec() };
+    let space = if old.ends_with(b"\n") { "\n" } else { " " };
+    let new = format!("{}{space}", r.pick(&WORDS)).into_bytes();
+    words[k] = &new;
     words.concat()
 }
 
@@ -97,23 +98,22 @@ fn change_word(r: &mut Rng, text: &[u8]) -> Vec<u8> {
 fn change_bytes(r: &mut Rng, text: &[u8]) -> Vec<u8> {
     let mut bytes = text.to_vec();
     let k = below(r, bytes.len());
+    let Some(byte) = bytes.get_mut(k) else { return vec![r.bits() as u8] };
     match r.below(6) {
-        0 if !bytes.is_empty() => bytes[k] ^= 1 << r.below(8),
-        1 if !bytes.is_empty() => bytes[k] = r.bits() as u8,
-        2 => {
-            bytes.insert(k.min(bytes.len()), r.pick(&[0, b' ', b'\t', b'\r', b'\n', b'#', b'-', 0x80, 0xff]))
-        }
+        0 => *byte ^= 1 << r.below(8),
+        1 => *byte = r.bits() as u8,
+        2 => bytes.insert(k, r.pick(&[0, b' ', b'\t', b'\r', b'\n', b'#', b'-', 0x80, 0xff])),
         3 => bytes.truncate(k),
-        4 => drop(bytes.drain(k.min(bytes.len())..(k + below(r, 40)).min(bytes.len()))),
+        4 => drop(bytes.drain(k..(k + below(r, 40)).min(text.len()))),
         _ => {
             let noise: Vec<u8> = (0..below(r, 60)).map(|_| r.bits() as u8).collect();
-            bytes.splice(k.min(bytes.len())..k.min(bytes.len()), noise);
+            drop(bytes.splice(k..k, noise));
         }
     }
     bytes
 }
 
-/// A sample with up to four changes, joined with another one now and then; or noise alone.
+/// A sample with up to three changes, joined with another one now and then; or noise alone.
 pub fn damaged(r: &mut Rng, samples: &[String]) -> Vec<u8> {
     if r.chance(0.02) {
         return (0..below(r, 3_000)).map(|_| r.bits() as u8).collect();
@@ -125,7 +125,7 @@ pub fn damaged(r: &mut Rng, samples: &[String]) -> Vec<u8> {
     if r.chance(0.03) {
         bytes.splice(0..0, "\u{feff}".bytes());
     }
-    for _ in 0..r.below(4) + 1 {
+    for _ in 0..r.below(4) {
         bytes = match r.below(8) {
             0..=3 => change_word(r, &bytes),
             4..=5 => change_lines(r, &bytes),
