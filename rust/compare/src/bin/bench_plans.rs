@@ -1,5 +1,6 @@
 //! Times whole plans of the proved library beside the Rust, and prints the tables of docs/PERFORMANCE.md: `cargo run
-//! --release --bin bench_plans [-- --threads 1]`. All times are of the thread's CPU.
+//! --release --bin bench_plans -- [--threads T] [--only WORD]`, the word being part of a job's name. All times are of the
+//! thread's CPU.
 use compare::planner::{Answer, Report, Slices, adaptive_clear};
 use compare::raw::Raw;
 use compare::sampled::{FRAMES, Met, sampled};
@@ -11,6 +12,7 @@ use oracle::planner::AdaptiveParams;
 use oracle::run::{Plan, run};
 use oracle::switches::{self, Switches};
 use oracle::vec2::v2;
+use std::process::ExitCode;
 use std::sync::Mutex;
 use std::time::Duration;
 
@@ -254,17 +256,36 @@ fn machine() -> String {
     format!("{}, {cores} cores, load {load} at the end", model.trim_start_matches([' ', '\t', ':']))
 }
 
-fn main() {
+struct Asked {
+    threads: usize,
+    only: String,
+}
+
+fn asked(words: &[String]) -> Option<Asked> {
+    let mut asked = Asked { threads: 2, only: String::new() };
+    for pair in words.chunks(2) {
+        let value = pair.get(1)?;
+        match pair[0].as_str() {
+            "--threads" => asked.threads = value.parse().ok()?,
+            "--only" => asked.only = value.clone(),
+            _ => return None,
+        }
+    }
+    Some(asked)
+}
+
+fn main() -> ExitCode {
     let words: Vec<String> = std::env::args().skip(1).collect();
-    let threads = match words.iter().map(String::as_str).collect::<Vec<_>>()[..] {
-        [] => 2,
-        ["--threads", n] => n.parse().expect("a number of threads"),
-        _ => panic!("bench_plans [--threads T]"),
+    let Some(Asked { threads, only }) = asked(&words) else {
+        eprintln!("bench_plans [--threads T] [--only WORD]");
+        return ExitCode::from(2);
     };
-    let named = large().into_iter().map(|(name, job)| (name.to_string(), job)).collect();
-    let jobs = all(named, threads);
-    let finer = all([0.1, 0.07, 0.05, 0.035].map(|cell| square(18.0, cell)).to_vec(), threads);
-    let wider = all([9.0, 18.0, 27.0, 36.0].map(|side| square(side, 0.1)).to_vec(), threads);
+    let time = |jobs: Vec<(String, Job)>| {
+        all(jobs.into_iter().filter(|(name, _)| name.contains(&only)).collect(), threads)
+    };
+    let jobs = time(large().into_iter().map(|(name, job)| (name.to_string(), job)).collect());
+    let finer = time([0.1, 0.07, 0.05, 0.035].map(|cell| square(18.0, cell)).to_vec());
+    let wider = time([9.0, 18.0, 27.0, 36.0].map(|side| square(side, 0.1)).to_vec());
     println!("{}; {threads} threads.\n\n### The larger jobs\n", machine());
     print_times(&jobs);
     println!("\n### By phase: Rust with a rim table : proved\n");
@@ -273,4 +294,5 @@ fn main() {
     print_times(&finer);
     println!("\n### Larger pockets, the same cell\n");
     print_times(&wider);
+    ExitCode::SUCCESS
 }
