@@ -24,7 +24,7 @@ Examples:
 Exit status: 0 planned, 1 refused by a question of document 01, 2 unusable input or an output that cannot be written.
 ";
 
-#[derive(Debug, Default)]
+#[derive(Default)]
 pub struct Options {
     /// None: standard input.
     pub job: Option<PathBuf>,
@@ -32,7 +32,6 @@ pub struct Options {
     pub progress: bool,
 }
 
-#[derive(Debug)]
 pub enum Asked {
     Help,
     Plan(Options),

@@ -29,16 +29,9 @@ pub const KINDS: &[Kind] = &[
     },
 ];
 
-#[derive(Clone)]
 pub struct Output {
     pub kind: &'static Kind,
     pub file: PathBuf,
-}
-
-impl std::fmt::Debug for Output {
-    fn fmt(&self, f: &mut std::fmt::Formatter<'_>) -> std::fmt::Result {
-        write!(f, "{} {}", self.kind.option, self.file.display())
-    }
 }
 
 impl Output {
