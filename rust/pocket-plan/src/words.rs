@@ -39,7 +39,7 @@ fn area(v: f64, of: f64) -> String {
 pub fn report(scene: &Scene) -> String {
     let (p, plan) = (&scene.job.params, &scene.plan);
     let (r, grid) = (&plan.report, &plan.grid);
-    let starting = r.starting_cells as f64 * grid.cell * grid.cell;
+    let starting = scene.starting_area();
     let layers =
         format!("{} of {} mm at most, Z {} to {} mm", many(r.layers, "layer"), p.step_down, p.top, p.bottom);
     let mut lines = vec![
