@@ -1,6 +1,6 @@
 //! The files that the command writes.
 use crate::scene::Scene;
-use crate::{image, list, picture};
+use crate::{image, list, page, picture};
 use std::fs;
 use std::path::PathBuf;
 
@@ -18,6 +18,12 @@ pub const KINDS: &[Kind] = &[
         option: "--svg",
         shows: "the plan as a picture",
         bytes: |scene, _| picture::svg(scene).into(),
+        endings: &[],
+    },
+    Kind {
+        option: "--page",
+        shows: "the plan as a web page that replays it",
+        bytes: |scene, _| page::page(scene).into(),
         endings: &[],
     },
     Kind { option: "--list", shows: "the list", bytes: |scene, _| list::list(scene).into(), endings: &[] },

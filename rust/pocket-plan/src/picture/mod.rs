@@ -8,7 +8,8 @@ mod thin;
 
 use crate::scene::Scene;
 use crate::words;
-use paper::{Paper, Path, escaped, short};
+pub use paper::escaped;
+use paper::{Paper, Path, short};
 use pocket::{Chunk, Cut, Point, Shape};
 use scale::Scale;
 use thin::{Spot, outlines, thin};
@@ -51,6 +52,12 @@ text{font-family:Helvetica,Arial,sans-serif;font-size:12px;fill:#222}
 const HATCH: &str = "<pattern id=\"hatch\" width=\"7\" height=\"7\" patternUnits=\"userSpaceOnUse\" \
     patternTransform=\"rotate(45)\"><rect width=\"7\" height=\"7\" fill=\"#fff\"/>\
     <line x1=\"0\" y1=\"0\" x2=\"0\" y2=\"7\" stroke=\"#999\" stroke-width=\"1.6\"/></pattern>";
+
+/// The steps of the contact scale up to a limit: how many degrees each has, and its colour.
+pub fn steps(limit: f64) -> (f64, Vec<String>) {
+    let scale = Scale::new(limit);
+    (scale.step, (0..scale.steps()).map(|step| scale.color(step)).collect())
+}
 
 /// What is drawn, on its paper.
 struct Drawing<'a> {

@@ -30,20 +30,10 @@ impl Drawing<'_> {
                 Chunk::Plunge(to) => marks += &self.plunge(*to),
                 Chunk::Link(_) | Chunk::Cut(_) => {}
             }
-            at = self.end(&chunk).or(at);
+            at = chunk.end().map(|p| self.paper.spot(p)).or(at);
         }
         self.put(format!("<path class=\"link\" d=\"{}\"/>", links.data()));
         self.put(marks);
-    }
-
-    /// Where a chunk leaves the tool; a helix ends at its east.
-    fn end(&self, chunk: &Chunk) -> Option<Spot> {
-        let point = match chunk {
-            Chunk::Helix { center, radius } => Point::new(center.x + radius, center.y),
-            Chunk::Plunge(to) | Chunk::Link(to) => *to,
-            Chunk::Cut(cuts) => cuts.last()?.at,
-        };
-        Some(self.paper.spot(point))
     }
 
     fn helix(&self, center: Point, radius: f64, cleared: f64) -> String {
