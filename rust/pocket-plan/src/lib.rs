@@ -5,6 +5,7 @@ pub mod list;
 pub mod mistake;
 pub mod options;
 pub mod output;
+pub mod page;
 pub mod picture;
 pub mod progress;
 pub mod scene;

@@ -11,6 +11,7 @@ Plans the pocket of a job file by the proved planner and prints its report. JOB 
 for standard input. Lengths are in mm, angles in degrees.
 
   --svg FILE    writes the plan as a picture: pocket, islands, stock, passes coloured by contact, links, entries
+  --page FILE   writes the plan as one web page that needs no network: the picture, and a replay of the list row by row
   --list FILE   writes the list, a triple a line: row, kind, x, y, value
   --map FILE    writes the stock that is left as an image, a pixel a cell: FILE.png or FILE.pgm
   --progress    tells the time while it plans, where standard error is no terminal too
@@ -19,12 +20,13 @@ for standard input. Lengths are in mm, angles in degrees.
 Examples:
   pocket-plan jobs/small.job
   pocket-plan jobs/faceplate.job --svg faceplate.svg --list faceplate.tsv
+  pocket-plan jobs/enclosure-side.job --page enclosure-side.html
   pocket-plan --map left.png - < jobs/open-side.job
 
 Exit status: 0 planned, 1 refused by a question of document 01, 2 unusable input or an output that cannot be written.
 ";
 
-#[derive(Debug, Default)]
+#[derive(Default)]
 pub struct Options {
     /// None: standard input.
     pub job: Option<PathBuf>,
@@ -32,7 +34,6 @@ pub struct Options {
     pub progress: bool,
 }
 
-#[derive(Debug)]
 pub enum Asked {
     Help,
     Plan(Options),

@@ -1,6 +1,6 @@
 //! The files that the command writes.
 use crate::scene::Scene;
-use crate::{image, list, picture};
+use crate::{image, list, page, picture};
 use std::fs;
 use std::path::PathBuf;
 
@@ -20,6 +20,12 @@ pub const KINDS: &[Kind] = &[
         bytes: |scene, _| picture::svg(scene).into(),
         endings: &[],
     },
+    Kind {
+        option: "--page",
+        shows: "the plan as a web page that replays it",
+        bytes: |scene, _| page::page(scene).into(),
+        endings: &[],
+    },
     Kind { option: "--list", shows: "the list", bytes: |scene, _| list::list(scene).into(), endings: &[] },
     Kind {
         option: "--map",
@@ -29,16 +35,9 @@ pub const KINDS: &[Kind] = &[
     },
 ];
 
-#[derive(Clone)]
 pub struct Output {
     pub kind: &'static Kind,
     pub file: PathBuf,
-}
-
-impl std::fmt::Debug for Output {
-    fn fmt(&self, f: &mut std::fmt::Formatter<'_>) -> std::fmt::Result {
-        write!(f, "{} {}", self.kind.option, self.file.display())
-    }
 }
 
 impl Output {

@@ -21,6 +21,12 @@ impl Scene {
         let start = starting_stock(plan.grid, &pocket, stock.as_deref()).ok()?;
         Some(Scene { name: name.into(), job, pocket, stock, start, plan })
     }
+
+    /// The area of the starting stock, in square mm.
+    pub fn starting_area(&self) -> f64 {
+        let cell = self.plan.grid.cell;
+        self.plan.report.starting_cells as f64 * cell * cell
+    }
 }
 
 /// The pocket's cells, those of the stock regions where there is a list of them.

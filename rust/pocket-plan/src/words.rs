@@ -37,12 +37,17 @@ fn area(v: f64, of: f64) -> String {
 
 /// The report, a line a fact.
 pub fn report(scene: &Scene) -> String {
+    facts(scene).iter().map(|(name, fact)| format!("  {name:14}  {fact}\n")).collect()
+}
+
+/// What the report tells: its names, and what is told under each.
+pub fn facts(scene: &Scene) -> Vec<(&'static str, String)> {
     let (p, plan) = (&scene.job.params, &scene.plan);
     let (r, grid) = (&plan.report, &plan.grid);
-    let starting = r.starting_cells as f64 * grid.cell * grid.cell;
+    let starting = scene.starting_area();
     let layers =
         format!("{} of {} mm at most, Z {} to {} mm", many(r.layers, "layer"), p.step_down, p.top, p.bottom);
-    let mut lines = vec![
+    let mut facts = vec![
         ("tool", format!("{} mm, {} mm left on walls", p.tool_diameter, p.stock_to_leave)),
         (
             "contact",
@@ -64,8 +69,8 @@ pub fn report(scene: &Scene) -> String {
         ("list", format!("{}, {}", many(plan.rows.len(), "row"), many(plan.triples.len(), "triple"))),
         ("raster", format!("{} by {} cells of {} mm", count(grid.nx), count(grid.ny), decimal(grid.cell, 6))),
     ];
-    lines.extend(warnings(scene).map(|warning| ("note", warning)));
-    lines.iter().map(|(name, fact)| format!("  {name:14}  {fact}\n")).collect()
+    facts.extend(warnings(scene).map(|warning| ("note", warning)));
+    facts
 }
 
 /// What the tool does in a layer.

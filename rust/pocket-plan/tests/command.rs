@@ -218,3 +218,13 @@ fn every_refusal_says_the_value_that_failed() {
         assert!(told.contains(&format!("? No: {value}")), "{lines}: {told}");
     }
 }
+
+#[test]
+fn too_many_loops_regions_and_vertices_are_counted() {
+    let islands = format!("pocket{}\nverts 0", " 3".repeat(66));
+    assert!(refusal(&islands).contains("? No: a region has 65 islands; "));
+    let regions = format!("pocket 3\nstock 17\n{}verts 0", "region 3\n".repeat(17));
+    assert!(refusal(&regions).contains("? No: there are 17 stock regions; "));
+    let vertices = format!("pocket 4097\nverts 4097\n{}", "0 0\n".repeat(4097));
+    assert!(refusal(&vertices).contains("? No: there are 4,097 vertices; "));
+}

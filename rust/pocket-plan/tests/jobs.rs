@@ -107,3 +107,27 @@ fn sample_jobs_are_read() {
         assert!(raw.shapes().is_some());
     }
 }
+
+/// The indented texts of a document.
+fn texts(document: &str) -> Vec<String> {
+    let mut texts = vec![String::new()];
+    for line in document.lines() {
+        match (line.strip_prefix("    "), texts.last_mut()) {
+            (Some(line), Some(last)) => *last += &format!("{line}\n"),
+            _ => texts.push(String::new()),
+        }
+    }
+    texts
+}
+
+#[test]
+fn the_examples_of_the_document_are_read() {
+    let document = Path::new(env!("CARGO_MANIFEST_DIR")).join("../../docs/JOBS.md");
+    let texts = texts(&fs::read_to_string(document).unwrap());
+    let jobs: Vec<RawJob> =
+        texts.iter().filter(|text| text.contains("\nverts")).map(|text| parse(text).unwrap()).collect();
+    assert_eq!(jobs.iter().map(|job| job.shapes().unwrap().len()).collect::<Vec<_>>(), [1, 2]);
+    let mistaken = texts.iter().find(|text| text.contains("expected")).unwrap();
+    let mistake = parse("diameter 6\n\nengagement 6O\n").unwrap_err();
+    assert_eq!(*mistaken, format!("{}\n", mistake.under("bad.job")));
+}

@@ -63,6 +63,17 @@ pub enum Chunk {
     Cut(Vec<Cut>),
 }
 
+impl Chunk {
+    /// Where it leaves the tool; a helix ends at its east.
+    pub fn end(&self) -> Option<Point> {
+        match self {
+            Chunk::Helix { center, radius } => Some(Point::new(center.x + radius, center.y)),
+            Chunk::Plunge(to) | Chunk::Link(to) => Some(*to),
+            Chunk::Cut(cuts) => cuts.last().map(|cut| cut.at),
+        }
+    }
+}
+
 #[derive(Clone, Debug, PartialEq)]
 pub struct Plan {
     pub report: Report,

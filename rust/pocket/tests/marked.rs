@@ -79,6 +79,7 @@ fn a_square_is_filled_on_its_raster() {
     let params = Params { resolution: Some(1.0), ..Params::default() };
     let grid = pocket::Job::new(params, square.clone()).raw().grid().unwrap();
     assert_eq!((grid.origin, grid.nx, grid.ny), (Point::new(-2.0, -2.0), 9, 9));
+    assert_eq!(grid.center(0, 8), Point::new(-1.5, 6.5));
     let mut map = Map::new(grid).unwrap();
     assert_eq!(map.fill_region(&square), Ok(()));
     assert_eq!(map.standing(), Ok(16));

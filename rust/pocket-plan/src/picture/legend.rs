@@ -1,8 +1,8 @@
 //! The legend beside the plot: the scale of contact, the signs, the tool's size.
 use super::Drawing;
-use super::paper::short;
+use super::paper::{short, text};
+use super::scale::Scale;
 use crate::words::{count, decimal};
-use pocket::Chunk;
 use std::fmt::Write;
 
 /// The least height of a picture, for the legend to fit.
@@ -19,68 +19,60 @@ const LINE: f64 = 23.0;
 /// The largest radius of a tool that is shown.
 const LARGEST: f64 = 40.0;
 
+/// Where a contact stands on the bar.
+fn height(scale: &Scale, degrees: f64) -> f64 {
+    TOP + BAR * (1.0 - degrees / scale.limit)
+}
+
+/// The steps of contact.
+fn bar(scale: &Scale, x: f64) -> String {
+    let step = |step: usize| {
+        let (low, high) = (height(scale, scale.edge(step)), height(scale, scale.edge(step + 1)));
+        let [x, y, h] = [x, high, low - high].map(short);
+        let color = scale.color(step);
+        format!("<rect x=\"{x}\" y=\"{y}\" width=\"{WIDTH}\" height=\"{h}\" fill=\"{color}\"/>\n")
+    };
+    (0..scale.steps()).map(step).collect()
+}
+
+/// The degrees between the steps; the number before the limit is left out where the limit's would stand over it.
+fn degrees(scale: &Scale, x: f64) -> String {
+    let last = scale.steps();
+    let near =
+        |step: usize| step + 1 == last && height(scale, scale.edge(step)) - height(scale, scale.limit) < 13.0;
+    let mark = |step: usize| {
+        let y = height(scale, scale.edge(step));
+        let label = decimal(scale.edge(step), 3) + if step == last { " limit" } else { "" };
+        let [tick, at] = [x, y].map(short);
+        format!("<path class=\"tick\" d=\"M{tick} {at}h5\"/>{}\n", text("start", [x + 9.0, y + 4.0], &label))
+    };
+    (0..=last).filter(|step| !near(*step)).map(mark).collect()
+}
+
+/// An arrow beside the bar.
+fn arrow(x: f64, y: f64) -> String {
+    format!("<path d=\"M{} {}l-7 -4v8z\"/>", short(x - 1.0), short(y))
+}
+
 impl Drawing<'_> {
     pub(super) fn legend(&mut self) {
         let x = self.paper.left + self.paper.width + 28.0;
-        let bar = self.bar(x);
-        self.put(bar);
-        let signs = self.signs(x, TOP + BAR + 56.0);
-        self.put(signs);
-    }
-
-    /// The steps of contact with their degrees, the greatest that is planned marked.
-    fn bar(&self, x: f64) -> String {
-        let scale = &self.scale;
-        let at = |degrees: f64| TOP + BAR * (1.0 - degrees / scale.limit);
-        let mut s = format!(
-            "<text x=\"{}\" y=\"{}\">Contact of a pass (degrees)</text>\n",
-            short(x),
-            short(TOP - 26.0)
-        );
-        for step in 0..scale.steps() {
-            let (low, high) = (scale.edge(step), scale.edge(step + 1));
-            let _ = writeln!(
-                s,
-                "<rect x=\"{}\" y=\"{}\" width=\"{WIDTH}\" height=\"{}\" fill=\"{}\"/>",
-                short(x),
-                short(at(high)),
-                short(at(low) - at(high)),
-                scale.color(step)
-            );
-        }
-        for step in 0..=scale.steps() {
-            let degrees = scale.edge(step);
-            let y = at(degrees);
-            let name = if step == scale.steps() { " limit" } else { "" };
-            // A last step that is much smaller than the others would put its number over the one before.
-            if step + 1 == scale.steps() && at(degrees) - at(scale.limit) < 13.0 {
-                continue;
-            }
-            let _ = writeln!(
-                s,
-                "<path class=\"tick\" d=\"M{} {}h5\"/><text x=\"{}\" y=\"{}\">{}{name}</text>",
-                short(x + WIDTH),
-                short(y),
-                short(x + WIDTH + 9.0),
-                short(y + 4.0),
-                decimal(degrees, 3)
-            );
-        }
-        let greatest = self.scene.plan.report.planned_max_engagement_deg;
-        for (y, text) in [(at(greatest), None), (TOP + BAR + 22.0, Some(greatest))] {
-            let arrow = format!("<path d=\"M{} {}l-7 -4v8z\"/>", short(x - 1.0), short(y));
-            let text = text.map_or(String::new(), |degrees| {
-                let (x, y, degrees) = (short(x + 6.0), short(y + 4.0), decimal(degrees, 1));
-                format!("<text x=\"{x}\" y=\"{y}\">greatest planned {degrees}</text>")
-            });
-            let _ = writeln!(s, "{arrow}{text}");
-        }
-        s
+        let (scale, greatest) = (&self.scale, self.scene.plan.report.planned_max_engagement_deg);
+        let below = TOP + BAR + 22.0;
+        let told = format!("greatest planned {}", decimal(greatest, 1));
+        let parts = [
+            text("start", [x, TOP - 26.0], "Contact of a pass (degrees)"),
+            bar(scale, x),
+            degrees(scale, x + WIDTH),
+            arrow(x, height(scale, greatest)),
+            arrow(x, below) + &text("start", [x + 6.0, below + 4.0], &told),
+            self.signs(x, below + 34.0),
+        ];
+        self.put(parts.join("\n"));
     }
 
     fn signs(&self, x: f64, top: f64) -> String {
         let r = &self.scene.plan.report;
-        let plunges = self.scene.plan.chunks().filter(|c| matches!(c, Chunk::Plunge(_))).count();
         let middle = self.scale.color(self.scale.steps() / 2);
         let pass = format!("<path class=\"pass\" stroke=\"{middle}\" stroke-width=\"2\" d=\"M0 0h28\"/>");
         let signs = [
@@ -96,7 +88,7 @@ impl Drawing<'_> {
             ("<rect class=\"left\" x=\"3\" y=\"-8\" width=\"22\" height=\"16\"/>", "stock left".into()),
             (pass.as_str(), format!("pass ({})", count(r.passes))),
             ("<path class=\"link\" d=\"M0 0h28\"/>", format!("link at depth ({})", count(r.links))),
-            ("<path class=\"plunge\" d=\"M14 3l-3 -5.5h6z\"/>", format!("plunge ({})", count(plunges))),
+            ("<path class=\"plunge\" d=\"M14 3l-3 -5.5h6z\"/>", format!("plunge ({})", count(r.retracts))),
             (
                 "<circle class=\"helix\" cx=\"14\" r=\"4\"/><circle class=\"disk\" cx=\"14\" r=\"9\"/>",
                 format!("helix and its disk ({})", count(r.helix_entries)),
@@ -121,11 +113,9 @@ impl Drawing<'_> {
         if radius > LARGEST {
             return String::new();
         }
-        let (cx, cy) = (short(x + radius.max(14.0)), short(top + radius));
-        let (tx, ty) = (short(x + 2.0 * radius.max(14.0) + 10.0), short(top + radius + 4.0));
-        format!(
-            "<circle class=\"tool\" cx=\"{cx}\" cy=\"{cy}\" r=\"{}\"/><text x=\"{tx}\" y=\"{ty}\">tool to scale</text>",
-            short(radius)
-        )
+        let (half, y) = (radius.max(14.0), top + radius);
+        let [cx, cy, r] = [x + half, y, radius].map(short);
+        let name = text("start", [x + 2.0 * half + 10.0, y + 4.0], "tool to scale");
+        format!("<circle class=\"tool\" cx=\"{cx}\" cy=\"{cy}\" r=\"{r}\"/>{name}")
     }
 }

@@ -1,15 +1,17 @@
 //! The plan as a picture, in SVG.
+mod axes;
 mod legend;
+mod moves;
 mod paper;
 mod scale;
 mod thin;
 
 use crate::scene::Scene;
 use crate::words;
-use paper::{Paper, Path, escaped, short};
+pub use paper::escaped;
+use paper::{Paper, Path, short};
 use pocket::{Chunk, Cut, Point, Shape};
 use scale::Scale;
-use std::fmt::Write;
 use thin::{Spot, outlines, thin};
 
 /// The plot's place and largest size, and the room for the legend, in pixels.
@@ -17,6 +19,9 @@ const CORNER: Spot = [64.0, 76.0];
 const PLOT: Spot = [900.0, 700.0];
 const LEGEND: f64 = 236.0;
 const FOOT: f64 = 56.0;
+
+/// The least width of a picture, for the title to fit.
+const NARROWEST: f64 = 760.0;
 
 /// How far a thinned line may be from its points, in pixels.
 const SLACK: f64 = 0.15;
@@ -47,6 +52,12 @@ text{font-family:Helvetica,Arial,sans-serif;font-size:12px;fill:#222}
 const HATCH: &str = "<pattern id=\"hatch\" width=\"7\" height=\"7\" patternUnits=\"userSpaceOnUse\" \
     patternTransform=\"rotate(45)\"><rect width=\"7\" height=\"7\" fill=\"#fff\"/>\
     <line x1=\"0\" y1=\"0\" x2=\"0\" y2=\"7\" stroke=\"#999\" stroke-width=\"1.6\"/></pattern>";
+
+/// The steps of the contact scale up to a limit: how many degrees each has, and its colour.
+pub fn steps(limit: f64) -> (f64, Vec<String>) {
+    let scale = Scale::new(limit);
+    (scale.step, (0..scale.steps()).map(|step| scale.color(step)).collect())
+}
 
 /// What is drawn, on its paper.
 struct Drawing<'a> {
@@ -85,7 +96,7 @@ impl Drawing<'_> {
 
     fn all(&mut self) {
         let height = (CORNER[1] + self.paper.height + FOOT).max(legend::HEIGHT);
-        let width = CORNER[0] + self.paper.width + LEGEND;
+        let width = (CORNER[0] + self.paper.width + LEGEND).max(NARROWEST);
         let (w, h) = (short(width), short(height));
         self.put(format!(
             "<svg xmlns=\"http://www.w3.org/2000/svg\" width=\"{w}\" height=\"{h}\" viewBox=\"0 0 {w} {h}\">"
@@ -131,67 +142,14 @@ impl Drawing<'_> {
             "<text class=\"title\" x=\"{x}\" y=\"32\">{name}: tool {} mm, {contact}</text>",
             p.tool_diameter
         ));
-        let starting = r.starting_cells as f64 * plan.grid.cell * plan.grid.cell;
-        let areas = [r.removed_area, starting, r.remaining_reachable_area, r.unreachable_area];
+        let areas =
+            [r.removed_area, self.scene.starting_area(), r.remaining_reachable_area, r.unreachable_area];
         let [removed, starting, left, out] = areas.map(|a| words::decimal(a, 1));
         let each = if r.layers == 1 { String::new() } else { format!(" in each of {} layers", r.layers) };
         let rest = format!("left in reach {left} mm\u{b2}, out of reach {out} mm\u{b2}");
         self.put(format!(
             "<text class=\"small\" x=\"{x}\" y=\"54\">removed {removed} of {starting} mm\u{b2}{each}; {rest}</text>"
         ));
-    }
-
-    /// Ticks with their mm, and faint lines across the plot.
-    fn axes(&mut self) {
-        let p = &self.paper;
-        let step = scale::round_step(70.0 / p.scale);
-        let ticks = |from: f64, length: f64| {
-            let to = from + length / p.scale;
-            let first = (from / step).ceil() as i64;
-            let last = (to / step).floor() as i64;
-            (first..=last).map(move |k| k as f64 * step)
-        };
-        let decimals = (-step.log10().floor()).max(0.0) as usize;
-        let (left, right) = (short(p.left), short(p.left + p.width));
-        let (top, bottom) = (short(p.top), short(p.top + p.height));
-        let mut s = String::new();
-        for x in ticks(p.x, p.width) {
-            let (at, label) = (short(p.across(x)), words::decimal(x, decimals));
-            let _ = writeln!(
-                s,
-                "<path class=\"grid\" d=\"M{at} {top}V{bottom}\"/><path class=\"tick\" d=\"M{at} {bottom}v5\"/>"
-            );
-            let _ = writeln!(
-                s,
-                "<text x=\"{at}\" y=\"{}\" text-anchor=\"middle\">{label}</text>",
-                short(p.top + p.height + 19.0)
-            );
-        }
-        for y in ticks(p.y, p.height) {
-            let (at, label) = (short(p.down(y)), words::decimal(y, decimals));
-            let _ = writeln!(
-                s,
-                "<path class=\"grid\" d=\"M{left} {at}H{right}\"/><path class=\"tick\" d=\"M{left} {at}h-5\"/>"
-            );
-            let _ = writeln!(
-                s,
-                "<text x=\"{}\" y=\"{}\" text-anchor=\"end\">{label}</text>",
-                short(p.left - 9.0),
-                short(p.down(y) + 4.0)
-            );
-        }
-        let _ = writeln!(
-            s,
-            "<text x=\"{}\" y=\"{}\" text-anchor=\"middle\">x (mm)</text>",
-            short(p.left + p.width / 2.0),
-            short(p.top + p.height + 38.0)
-        );
-        let (x, y) = (short(p.left - 46.0), short(p.top + p.height / 2.0));
-        let _ = write!(
-            s,
-            "<text x=\"{x}\" y=\"{y}\" text-anchor=\"middle\" transform=\"rotate(-90 {x} {y})\">y (mm)</text>"
-        );
-        self.put(s);
     }
 
     fn frame(&mut self) {
@@ -290,63 +248,5 @@ impl Drawing<'_> {
         for (from, to, step) in parts {
             paths[step].line(&thin(&spots[from..=to], SLACK));
         }
-    }
-
-    /// Links, plunges and helices.
-    fn moves(&mut self) {
-        let mut links = Path::default();
-        let mut way: Vec<Spot> = Vec::new();
-        let mut marks = String::new();
-        let radius = self.scene.job.params.tool_diameter / 2.0;
-        let mut at: Option<Spot> = None;
-        for chunk in self.scene.plan.chunks() {
-            if let (Chunk::Link(to), Some(from)) = (&chunk, at) {
-                if way.is_empty() {
-                    way.push(from);
-                }
-                way.push(self.paper.spot(*to));
-            } else {
-                links.line(&thin(&way, SLACK));
-                way.clear();
-            }
-            match &chunk {
-                Chunk::Helix { center, radius: helix } => {
-                    marks += &self.helix(*center, *helix, helix + radius);
-                }
-                Chunk::Plunge(to) => marks += &self.plunge(*to),
-                Chunk::Link(_) | Chunk::Cut(_) => {}
-            }
-            at = self.end(&chunk).or(at);
-        }
-        self.put(format!("<path class=\"link\" d=\"{}\"/>", links.data()));
-        self.put(marks);
-    }
-
-    /// Where a chunk leaves the tool; a helix ends at its east.
-    fn end(&self, chunk: &Chunk) -> Option<Spot> {
-        let point = match chunk {
-            Chunk::Helix { center, radius } => Point::new(center.x + radius, center.y),
-            Chunk::Plunge(to) | Chunk::Link(to) => *to,
-            Chunk::Cut(cuts) => cuts.last()?.at,
-        };
-        Some(self.paper.spot(point))
-    }
-
-    fn helix(&self, center: Point, radius: f64, cleared: f64) -> String {
-        let [x, y] = self.paper.spot(center).map(short);
-        let [r, disk] = [radius, cleared].map(|r| short(r * self.paper.scale));
-        let [cx, cy, mm] = [center.x, center.y, radius].map(|v| words::decimal(v, 3));
-        format!(
-            "<g><title>helix at ({cx}, {cy}), radius {mm} mm</title><circle class=\"disk\" cx=\"{x}\" cy=\"{y}\" r=\"{disk}\"/>\
-             <circle class=\"helix\" cx=\"{x}\" cy=\"{y}\" r=\"{r}\"/></g>\n"
-        )
-    }
-
-    fn plunge(&self, at: Point) -> String {
-        let [x, y] = self.paper.spot(at).map(short);
-        let [px, py] = [at.x, at.y].map(|v| words::decimal(v, 3));
-        format!(
-            "<path class=\"plunge\" d=\"M{x} {y}l-3 -5.5h6z\"><title>plunge at ({px}, {py})</title></path>\n"
-        )
     }
 }

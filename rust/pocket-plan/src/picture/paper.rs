@@ -109,3 +109,9 @@ pub fn escaped(text: &str) -> String {
     }
     s
 }
+
+/// A text at a place of the paper.
+pub fn text(anchor: &str, at: Spot, text: &str) -> String {
+    let [x, y] = at.map(short);
+    format!("<text x=\"{x}\" y=\"{y}\" text-anchor=\"{anchor}\">{}</text>", escaped(text))
+}

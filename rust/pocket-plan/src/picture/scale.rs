@@ -47,3 +47,21 @@ impl Scale {
         format!("#{:02x}{:02x}{:02x}", part(16), part(8), part(0))
     }
 }
+
+#[cfg(test)]
+mod tests {
+    use super::*;
+
+    #[test]
+    fn steps_are_round_and_end_at_the_limit() {
+        for (limit, step, steps) in
+            [(60.0, 10.0, 6), (75.0, 10.0, 8), (1.0, 0.2, 5), (179.9, 50.0, 4), (40.0, 5.0, 8)]
+        {
+            let scale = Scale::new(limit);
+            assert_eq!((scale.step, scale.steps()), (step, steps));
+            assert_eq!((scale.edge(0), scale.edge(steps)), (0.0, limit));
+            assert_eq!([0.0, limit.next_down(), limit].map(|d| scale.step_of(d)), [0, steps - 1, steps - 1]);
+            assert_eq!((scale.color(0), scale.color(steps - 1)), ("#0d0887".into(), "#fca636".into()));
+        }
+    }
+}
