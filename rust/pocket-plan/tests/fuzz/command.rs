@@ -1,5 +1,6 @@
 //! The command as a process.
 use oracle::generate::Rng;
+use pocket_plan::output::KINDS;
 use std::fs::{self, File};
 use std::path::{Path, PathBuf};
 use std::process::{self, Child, ExitStatus, Stdio};
@@ -60,8 +61,10 @@ impl Command {
             command.arg(file("in.job")).stdin(Stdio::null());
         }
         if r.chance(0.3) {
-            command.arg("--svg").arg(file("out.svg")).arg("--list").arg(file("out.tsv"));
-            command.arg("--map").arg(file("out.png"));
+            for kind in KINDS {
+                // An image's ending; the others may have any.
+                command.arg(kind.option).arg(file(&format!("out{}.png", kind.option)));
+            }
         }
         let (out, err) = (File::create(file("stdout")).unwrap(), File::create(file("stderr")).unwrap());
         let mut child = command.stdout(out).stderr(err).spawn().unwrap();
