@@ -216,23 +216,26 @@ fn print_times(jobs: &[Timed]) {
     }
 }
 
-/// Seconds with the rim table, and proved, by phase, and the phase's share of the proved.
+/// Seconds of each phase, and its share of the side's time.
 fn print_phases(jobs: &[Timed]) {
-    let titles: Vec<String> = PHASES.iter().map(|phase| format!("{phase}, s")).collect();
-    heads(&[&["job"][..], &titles.iter().map(String::as_str).collect::<Vec<_>>()].concat());
+    heads(&[&["job, s (%)", "side"][..], &PHASES].concat());
     for Timed { name, sides, .. } in jobs {
-        let [_, table, proved] = sides;
-        let cell = |k: usize| {
-            let (rust, own) = (table.phases[k], proved.phases[k]);
-            format!(
-                "{rust:.2} ({:.0} %) : {own:.2} ({:.0} %)",
-                100.0 * rust / table.all,
-                100.0 * own / proved.all
-            )
-        };
-        let cells: Vec<String> = (0..PHASES.len()).map(cell).collect();
-        println!("| {name} | {} |", cells.join(" | "));
+        for (side, spent) in ["printed", "rim table", "proved"].iter().zip(sides) {
+            let cell = |phase: f64| format!("{phase:.2} ({:.0})", 100.0 * phase / spent.all);
+            println!("| {name} | {side} | {} |", spent.phases.map(cell).join(" | "));
+        }
     }
+}
+
+/// The sum of all jobs.
+fn sum(jobs: &[Timed]) -> Timed {
+    let add = |a: Spent, b: &Spent| Spent {
+        all: a.all + b.all,
+        phases: std::array::from_fn(|k| a.phases[k] + b.phases[k]),
+    };
+    let side = |k: usize| jobs.iter().map(|job| &job.sides[k]).fold(Spent::default(), add);
+    let cells = jobs.iter().map(|job| job.cells).sum();
+    Timed { name: "all".into(), cells, sides: std::array::from_fn(side) }
 }
 
 /// A square pocket, tool 6, engagement 60.
@@ -283,12 +286,13 @@ fn main() -> ExitCode {
     let time = |jobs: Vec<(String, Job)>| {
         all(jobs.into_iter().filter(|(name, _)| name.contains(&only)).collect(), threads)
     };
-    let jobs = time(large().into_iter().map(|(name, job)| (name.to_string(), job)).collect());
+    let mut jobs = time(large().into_iter().map(|(name, job)| (name.to_string(), job)).collect());
     let finer = time([0.1, 0.07, 0.05, 0.035].map(|cell| square(18.0, cell)).to_vec());
     let wider = time([9.0, 18.0, 27.0, 36.0].map(|side| square(side, 0.1)).to_vec());
+    jobs.push(sum(&jobs));
     println!("{}; {threads} threads.\n\n### The larger jobs\n", machine());
     print_times(&jobs);
-    println!("\n### By phase: Rust with a rim table : proved\n");
+    println!("\n### By phase\n");
     print_phases(&jobs);
     println!("\n### Finer cells, the same pocket\n");
     print_times(&finer);
