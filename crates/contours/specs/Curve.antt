@@ -6,6 +6,7 @@ use mathlib.Core.Option.{Option, none, some}
 use lib.ListN.{length}
 use lib.Dec.{ltb}
 use lib.Ieee.{Float, binary64, ofBits, lt}
+use Rattle.numbers.specs.Small.{nano}
 use Rattle.loops.specs.Each.{over}
 use Rattle.loops.specs.Loop.{loop, Run, on, out, turn}
 use Rattle.geom.specs.Vec.{distanceOf}
@@ -102,12 +103,8 @@ curveFrom next e used s = curveOf (loop (turn (goOn next s)) 0 e (on (strandFrom
 
 -- ---- its points
 
--- 1e-9
-abbrev pub tight : Float
-tight = ofBits binary64 0x3e11_2e0b_e826_d695
-
 abbrev pub near : Vec2 → Vec2 → Bool
-near p q = lt (distanceOf p q) tight
+near p q = lt (distanceOf p q) nano
 
 -- the points after q, which is kept, without those near the last one kept
 unfoldable pub thinned : Vec2 → List Vec2 → List Vec2

@@ -46,8 +46,8 @@ pub enum Cut {
     Refused(u32),
 }
 
-// The work of the tries or of a search.
-fn spend(t: State, work: usize) -> State
+// Work that was spent: of the tries, of a search, of the field.
+pub fn spend(t: State, work: usize) -> State
     ensures { λ r. ⌜ r ≡ spending work t ⌝ }
 {
     let pos = t.pos;

@@ -9,6 +9,7 @@ use lib.Dec.{T}
 use lib.Ieee.{Float, nan, inf, fin, binary64, ofBits, round, div, lt, le, isNan}
 use lib.Ieee.Scale.{finite}
 use borrow.Author.Tests.{not-true, not-false}
+use Rattle.numbers.specs.Small.{c01}
 use Rattle.loops.specs.Loop.{loop, any}
 use Rattle.loops.proofs.LoopLaws.{loop-none, loop-more, loop-split, loop-keeps, any-each}
 use Rattle.loops.proofs.Cases.{both, by-test, never}
@@ -26,7 +27,7 @@ use Rattle.geom.specs.declared.region.Corners.{Corners}
 use Rattle.geom.proofs.RegionLaws.{loop-held}
 use Rattle.raster.specs.Grid.{spansOf, fitOf}
 use Rattle.entry.specs.Regions.{pocketOf}
-use Rattle.entry.specs.Questions.{c01, f80, f100, aboveZero, absentOr, givenOr, fineFor, cellOf, placed, astray, allPlaced, cornersOf, resolutionFit, rangesFit, shapesFit}
+use Rattle.entry.specs.Questions.{f80, f100, aboveZero, absentOr, givenOr, fineFor, cellOf, placed, astray, allPlaced, cornersOf, resolutionFit, rangesFit, shapesFit}
 use Rattle.entry.specs.declared.params.AdaptiveParams.{AdaptiveParams}
 use Rattle.entry.specs.declared.params.Setting.{Setting}
 use Rattle.entry.specs.declared.params.Setting.the-variants.{Absent, Given}

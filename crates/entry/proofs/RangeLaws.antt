@@ -7,10 +7,10 @@ use lib.Ieee.{binary64, sub, div, lt, le}
 use borrow.Author.Tests.{leb-true}
 use Rattle.loops.proofs.Cases.{both}
 use Rattle.numbers.specs.Order.{isFinite}
-use Rattle.numbers.specs.Small.{f1}
+use Rattle.numbers.specs.Small.{f1, f180, f1000, c01}
 use Rattle.raster.specs.declared.grid.Grid.{Grid}
 use Rattle.setup.specs.Layout.{Lent}
-use Rattle.entry.specs.Questions.{c01, f100, f180, f1000, f10000, absentOr, atMost1000, aboveZero, cellOf, engagementFit, helixFit, rangesFit, lentFit}
+use Rattle.entry.specs.Questions.{f100, f10000, absentOr, atMost1000, aboveZero, cellOf, engagementFit, helixFit, rangesFit, lentFit}
 use Rattle.entry.specs.declared.params.AdaptiveParams.{AdaptiveParams}
 use Rattle.entry.specs.declared.judge.Lengths.{Lengths}
 

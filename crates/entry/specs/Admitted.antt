@@ -4,12 +4,12 @@ use mathlib.Core.Bool.{Bool, true}
 use mathlib.Core.List.{List}
 use Prim.Native.Nat.{ℕ, _*_}
 use lib.Ieee.{Float, binary64, div, lt, le}
-use Rattle.numbers.specs.Small.{f1}
+use Rattle.numbers.specs.Small.{f1, f180, f1000, c01}
 use Rattle.raster.specs.Grid.{Sides}
 use Rattle.raster.specs.declared.grid.Grid.{Grid}
 use Rattle.setup.specs.Layout.{Lent}
 use Rattle.entry.specs.Regions.{AllHeld}
-use Rattle.entry.specs.Questions.{c01, f100, f180, f1000, aboveZero, absentOr, atMost1000, cellOf, jobGrid}
+use Rattle.entry.specs.Questions.{f100, aboveZero, absentOr, atMost1000, cellOf, jobGrid}
 use Rattle.entry.specs.declared.params.AdaptiveParams.{AdaptiveParams}
 use Rattle.entry.specs.declared.judge.Lengths.{Lengths}
 

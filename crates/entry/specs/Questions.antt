@@ -7,7 +7,7 @@ use lib.Dec.{eqb, ltb, leb}
 use lib.Ieee.{Float, nan, binary64, ofBits, add, sub, mul, div, lt, le}
 use Rattle.loops.specs.Loop.{any}
 use Rattle.numbers.specs.Order.{isFinite, absOf}
-use Rattle.numbers.specs.Small.{f1, f2, tiny}
+use Rattle.numbers.specs.Small.{f1, f2, f180, f1000, c01, tiny}
 use Rattle.geom.specs.Vec.{f0}
 use Rattle.geom.specs.Region.{boundsOf}
 use Rattle.geom.specs.declared.region.Corners.{Corners}
@@ -24,10 +24,7 @@ use Rattle.entry.specs.declared.judge.Judged.the-variants.{Refused, Fit}
 
 -- ---- numbers
 
--- 0.1, 0.3, 45.0, 60.0, 80.0, 100.0, 180.0, 1000.0, 10000.0
-abbrev pub c01 : Float
-c01 = ofBits binary64 0x3fb9_9999_9999_999a
-
+-- 0.3, 45.0, 60.0, 80.0, 100.0, 10000.0
 abbrev pub c03 : Float
 c03 = ofBits binary64 0x3fd3_3333_3333_3333
 
@@ -42,12 +39,6 @@ f80 = ofBits binary64 0x4054_0000_0000_0000
 
 abbrev pub f100 : Float
 f100 = ofBits binary64 0x4059_0000_0000_0000
-
-abbrev pub f180 : Float
-f180 = ofBits binary64 0x4066_8000_0000_0000
-
-abbrev pub f1000 : Float
-f1000 = ofBits binary64 0x408f_4000_0000_0000
 
 abbrev pub f10000 : Float
 f10000 = ofBits binary64 0x40c3_8800_0000_0000

@@ -16,19 +16,15 @@ use Rattle.floats.proofs.NumberLaws.{scale-number}
 use Rattle.floats.proofs.SwapLaws.{mul-swap}
 use Rattle.geom.specs.declared.vec2.Vec2.{Vec2}
 use Rattle.numbers.specs.Order.{minOf}
-use Rattle.numbers.specs.Small.{f2, half}
+use Rattle.numbers.specs.Small.{f2, f1000, half, c01}
 use Rattle.setup.specs.declared.Setup.{Setup}
 use Rattle.events.specs.Chunk.{Job}
 use Rattle.events.specs.Helix.{c80, rimBlocked, shrink, shrunk, radiusOf}
-use Rattle.helix.specs.Search.{tenth, leastOf, widestOf, bareJob, radiusAt}
-
--- 1000.0
-abbrev pub thousand : Float
-thousand = ofBits binary64 0x408f_4000_0000_0000
+use Rattle.helix.specs.Search.{leastOf, widestOf, bareJob, radiusAt}
 
 -- 1,000 after k shrinks
 unfoldable pub afterShrinks : ℕ → Float
-afterShrinks zero = thousand
+afterShrinks zero = f1000
 afterShrinks (suc k) = mul binary64 (afterShrinks k) c80
 
 -- 0.01, of a diameter of 0.1
@@ -69,7 +65,7 @@ module _ (j : Job) (c : Vec2) (L : lt (afterShrinks 52) (j .entry .least) ≡ tr
       (λ t. never (sym (lt-not-le rad (j .entry .least) (le-lt rad (afterShrinks 52) (j .entry .least) (h t) L)) ∙ t))
       (λ t. (none, ap (λ (x : Bool). cond x (cond (any (rimBlocked j c rad) 0 36) (on (mul binary64 rad c80)) (out (some rad))) (out none)) t))
 
-  module _ (widest : Float) (W : le widest thousand ≡ true) where
+  module _ (widest : Float) (W : le widest f1000 ≡ true) where
     all-bounded : Bounded 52 (loop (turn (shrink j c)) 0 52 (on widest))
     unfolding afterShrinks
     all-bounded =
@@ -86,32 +82,32 @@ module _ (j : Job) (c : Vec2) (L : lt (afterShrinks 52) (j .entry .least) ≡ tr
 
 -- 0.1 * 2.0
 abbrev fifth : Float
-fifth = mul binary64 tenth f2
+fifth = mul binary64 c01 f2
 
 -- ---- for the jobs that the questions accept: a diameter of at least 0.1, a preferred radius of at most 1,000
 
-least-high : (s : Setup) (diameter : Float) → s .r ≡ mul binary64 diameter half → le tenth diameter ≡ true → lt (afterShrinks 52) (leastOf s) ≡ true
+least-high : (s : Setup) (diameter : Float) → s .r ≡ mul binary64 diameter half → le c01 diameter ≡ true → lt (afterShrinks 52) (leastOf s) ≡ true
 unfolding leastOf ofBits round mul le lt eq isNan
 least-high s diameter e h =
     subst (λ (r : Float). lt (afterShrinks 52) (mul binary64 fifth r) ≡ true) (sym e)
     (lt-le (afterShrinks 52) hundredth (mul binary64 fifth (mul binary64 diameter half)) small
-    (le-le hundredth (mul binary64 fifth (mul binary64 tenth half)) (mul binary64 fifth (mul binary64 diameter half)) refl
-    (subst (λ (x : Float). le (mul binary64 fifth (mul binary64 tenth half)) x ≡ true) (mul-swap binary64 (mul binary64 diameter half) fifth)
-    (mul-mono binary64 (mul binary64 tenth half) (mul binary64 diameter half) fifth refl
-    (mul-mono binary64 tenth diameter half refl h refl number) refl (scale-number binary64 (mul binary64 diameter half) fifth number tt tt)))))
+    (le-le hundredth (mul binary64 fifth (mul binary64 c01 half)) (mul binary64 fifth (mul binary64 diameter half)) refl
+    (subst (λ (x : Float). le (mul binary64 fifth (mul binary64 c01 half)) x ≡ true) (mul-swap binary64 (mul binary64 diameter half) fifth)
+    (mul-mono binary64 (mul binary64 c01 half) (mul binary64 diameter half) fifth refl
+    (mul-mono binary64 c01 diameter half refl h refl number) refl (scale-number binary64 (mul binary64 diameter half) fifth number tt tt)))))
   where
     number : isNan (mul binary64 diameter half) ≡ false
-    number = scale-number binary64 diameter half (le-numbers tenth diameter h .1) tt tt
+    number = scale-number binary64 diameter half (le-numbers c01 diameter h .1) tt tt
 
-widest-low : (s : Setup) (pref d : Float) → le pref thousand ≡ true → le (widestOf s pref d) thousand ≡ true
+widest-low : (s : Setup) (pref d : Float) → le pref f1000 ≡ true → le (widestOf s pref d) f1000 ≡ true
 unfolding widestOf minOf
 widest-low s pref d h =
     let x : Float = sub binary64 (sub binary64 d (s .keep)) (mul binary64 f2 (s .grid .cell)) in
-    by-test (λ (w : Float). le w thousand ≡ true) (lt x pref) _ _
-    (λ t. le-le x pref thousand (lt-to-le x pref t) h)
-    (λ t. by-test (λ (w : Float). le w thousand ≡ true) (isNan pref) _ _ (λ u. never (sym (le-numbers pref thousand h .0) ∙ u)) (λ u. h))
+    by-test (λ (w : Float). le w f1000 ≡ true) (lt x pref) _ _
+    (λ t. le-le x pref f1000 (lt-to-le x pref t) h)
+    (λ t. by-test (λ (w : Float). le w f1000 ≡ true) (isNan pref) _ _ (λ u. never (sym (le-numbers pref f1000 h .0) ∙ u)) (λ u. h))
 
 -- 64 shrinks are never met: the loop is left
-pub shrinks-unmet : (s : Setup) (wall vs : List Float) (lens : List ℕ) (diameter pref d : Float) (c : Vec2) → s .r ≡ mul binary64 diameter half → le tenth diameter ≡ true → le pref thousand ≡ true
+pub shrinks-unmet : (s : Setup) (wall vs : List Float) (lens : List ℕ) (diameter pref d : Float) (c : Vec2) → s .r ≡ mul binary64 diameter half → le c01 diameter ≡ true → le pref f1000 ≡ true
     → loop (turn (shrink (bareJob s wall vs lens) c)) 0 65 (on (widestOf s pref d)) ≡ out (radiusAt s wall vs lens c (widestOf s pref d))
 shrinks-unmet s wall vs lens diameter pref d c e h k = shrinks-left (bareJob s wall vs lens) c (least-high s diameter e h) (widestOf s pref d) (widest-low s pref d k)

@@ -5,7 +5,7 @@ use mathlib.Core.Option.{Option, none, some}
 use lib.Ieee.{Float, nan, binary64, ofBits, sub, mul}
 use Rattle.loops.specs.Loop.{loop, Run, on, out, turn}
 use Rattle.numbers.specs.Order.{minOf}
-use Rattle.numbers.specs.Small.{f2}
+use Rattle.numbers.specs.Small.{f2, c01}
 use Rattle.geom.specs.declared.vec2.Vec2.{Vec2}
 use Rattle.raster.specs.Grid.{centerOf}
 use Rattle.setup.specs.Place.{cellsOf}
@@ -25,13 +25,9 @@ use Rattle.helix.specs.declared.search.Attempt.the-variants.{Fits, Given
 use Rattle.helix.specs.declared.search.Found.{Found}
 use Rattle.helix.specs.declared.search.Found.the-variants.{Helix, Nothing}
 
--- 0.1
-abbrev pub tenth : Float
-tenth = ofBits binary64 0x3fb9_9999_9999_999a
-
 -- 0.1 * 2.0 * r
 unfoldable pub leastOf : Setup → Float
-leastOf s = mul binary64 (mul binary64 tenth f2) (s .r)
+leastOf s = mul binary64 (mul binary64 c01 f2) (s .r)
 
 -- helix_pref.min(d - keep - 2.0 * cell), d from the walls
 unfoldable pub widestOf : Setup → Float → Float → Float

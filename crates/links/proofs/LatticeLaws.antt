@@ -15,7 +15,7 @@ use Rattle.loops.proofs.Cases.{by-test, both, never, neither}
 use Rattle.numbers.specs.Whole.{above, roundOf}
 use Rattle.numbers.specs.Order.{maxOf}
 use Rattle.numbers.proofs.MaxLaws.{max-ge-right}
-use Rattle.numbers.specs.Small.{f1}
+use Rattle.numbers.specs.Small.{f1, f16}
 use Rattle.geom.specs.declared.vec2.Vec2.{Vec2}
 use Rattle.distance.specs.Limits.{scaledOf, LimitOf}
 use Rattle.distance.specs.declared.limits.Threshold.{Threshold}
@@ -29,7 +29,7 @@ use Rattle.links.specs.declared.NodeNo.{NodeNo}
 use Rattle.links.specs.declared.lattice.Lattice.{Lattice}
 use Rattle.links.specs.declared.lattice.Neighbour.{Neighbour}
 use Rattle.links.specs.declared.lattice.Neighbour.the-variants.{Off, At}
-use Rattle.links.specs.Lattice.{f16, spacingOf, along, centreAt, nodeAt, latticeOf, nodes, columnOf, rowOf, cellOfNode, nodeFree, besideX, besideY, onLattice, besideOf, IsNode, Laid, boundOf, Limited}
+use Rattle.links.specs.Lattice.{spacingOf, along, centreAt, nodeAt, latticeOf, nodes, columnOf, rowOf, cellOfNode, nodeFree, besideX, besideY, onLattice, besideOf, IsNode, Laid, boundOf, Limited}
 
 -- ---- places k apart
 

@@ -8,7 +8,7 @@ use lib.ListN.{getD}
 use lib.Ieee.{Float, binary64, ofBits, sub, div, lt, toUnsigned}
 use Rattle.numbers.specs.Whole.{above, roundOf}
 use Rattle.numbers.specs.Order.{maxOf}
-use Rattle.numbers.specs.Small.{f1}
+use Rattle.numbers.specs.Small.{f1, f16}
 use Rattle.geom.specs.declared.vec2.Vec2.{Vec2}
 use Rattle.distance.specs.Limits.{LimitOf}
 use Rattle.distance.specs.Rooted.{rootedOf}
@@ -22,10 +22,6 @@ use Rattle.links.specs.declared.NodeNo.{NodeNo}
 use Rattle.links.specs.declared.lattice.Lattice.{Lattice}
 use Rattle.links.specs.declared.lattice.Neighbour.{Neighbour}
 use Rattle.links.specs.declared.lattice.Neighbour.the-variants.{Off, At}
-
--- 16.0
-abbrev pub f16 : Float
-f16 = ofBits binary64 0x4030_0000_0000_0000
 
 -- ((r / 16.0) / cell).round().max(1.0) as usize
 unfoldable pub spacingOf : Float → Float → ℕ

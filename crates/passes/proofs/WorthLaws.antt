@@ -12,14 +12,14 @@ use borrow.Author.Tests.{ltb-true, ltb-false, lt-ltb, le-ltb, le-leb, lt-leb, no
 use Rattle.loops.proofs.EachLaws.{map-more}
 use Rattle.loops.specs.Loop.{loop}
 use Rattle.loops.proofs.Cases.{by-cases, neither}
-use Rattle.numbers.specs.Small.{f1}
+use Rattle.numbers.specs.Small.{f1, c05}
 use Rattle.geom.specs.Vec.{f0, distanceOf}
 use Rattle.geom.specs.declared.vec2.Vec2.{Vec2}
 use Rattle.events.specs.Chunk.{Point}
 use Rattle.events.specs.Read.{spotAt, pointAt, pointsFrom}
 use Rattle.passes.specs.Simulate.{nowhere}
 use Rattle.passes.specs.Guide.{addLeg, pathLength}
-use Rattle.passes.specs.Worth.{c05, wantedOf, spotsFrom, worthOf}
+use Rattle.passes.specs.Worth.{wantedOf, spotsFrom, worthOf}
 
 module _ (ts : List Float) (first : ℕ) where
   pub spots-length : (n : ℕ) → length (spotsFrom ts first n) ≡ n

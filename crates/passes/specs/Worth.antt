@@ -5,13 +5,10 @@ use mathlib.Core.List.{List, [], _∷_, _++_}
 use lib.ListN.{length}
 use lib.Dec.{ltb}
 use lib.Ieee.{Float, binary64, ofBits, toUnsigned, mul, div}
+use Rattle.numbers.specs.Small.{c05}
 use Rattle.geom.specs.declared.vec2.Vec2.{Vec2}
 use Rattle.events.specs.Read.{spotAt}
 use Rattle.passes.specs.Guide.{pathLength}
-
--- 0.05
-abbrev pub c05 : Float
-c05 = ofBits binary64 0x3fa9_9999_9999_999a
 
 -- the cells that a pass of a length must clear: ((0.05 * length / cell) as usize).max(4)
 unfoldable pub wantedOf : Float → Float → ℕ

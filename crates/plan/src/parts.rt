@@ -4,12 +4,12 @@ ghost use Prim.Native.Nat.{_+_, _*_, _≤_};
 ghost use lib.Ieee.{Float};
 ghost use lib.ListN.{length};
 ghost use Rattle.setup.specs.Place.{cellsOf};
-ghost use Rattle.cutting.specs.Piece.{spending, Listed};
+ghost use Rattle.cutting.specs.Piece.{Listed};
 ghost use Rattle.workspace.specs.Standing.{Standing};
 ghost use Rattle.plan.specs.Parts.{lf, placesOf, afterPieces, afterRing, afterHelix, piecesPart, ringPart, helixPart, restOf, roundOf, slicesIn, groundIn, Kept};
 use cutting::piece::State;
+use cutting::piece::spend;
 use helix::enter::Entered;
-use passes::shifts::sat_add;
 use rounds::round::Cuts;
 use setup::Setup;
 
@@ -29,20 +29,6 @@ pub enum Step {
     Again(Progress),
     Done(Progress),
     Refused(u32),
-}
-
-// The work of the field.
-fn spend(t: State, work: usize) -> State
-    ensures { λ r. ⌜ r ≡ spending work t ⌝ }
-{
-    let pos = t.pos;
-    State {
-        pos,
-        rows: t.rows,
-        triples: t.triples,
-        planned_max: t.planned_max,
-        work: sat_add(t.work, work),
-    }
 }
 
 fn after_pieces(p: Progress, c: Cuts) -> Step

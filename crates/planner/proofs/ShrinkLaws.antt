@@ -4,6 +4,7 @@ use mathlib.Core.Bool.{Bool, true}
 use mathlib.Core.List.{List}
 use Prim.Native.Nat.{ℕ}
 use lib.Ieee.{Float, binary64, ofBits, round, mul, le, lt, eq, isNan}
+use Rattle.numbers.specs.Small.{f1000}
 use Rattle.loops.specs.Loop.{loop, on, out, turn}
 use Rattle.floats.proofs.OrderLaws.{le-le, le-numbers}
 use Rattle.floats.proofs.SwapLaws.{mul-swap}
@@ -14,7 +15,7 @@ use Rattle.raster.specs.declared.grid.Grid.{Grid}
 use Rattle.setup.specs.Made.{setupOf}
 use Rattle.events.specs.Helix.{shrink}
 use Rattle.entry.specs.Admitted.{Admitted}
-use Rattle.entry.specs.Questions.{c03, f100, f1000, absentOr, atMost1000, givenOr, helixOf}
+use Rattle.entry.specs.Questions.{c03, f100, absentOr, atMost1000, givenOr, helixOf}
 use Rattle.entry.specs.declared.params.AdaptiveParams.{AdaptiveParams}
 use Rattle.entry.specs.declared.params.Setting.{Setting}
 use Rattle.entry.specs.declared.params.Setting.the-variants.{Absent, Given}

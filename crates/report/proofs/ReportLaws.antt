@@ -10,18 +10,18 @@ use Rattle.numbers.specs.Cast.{float}
 use Rattle.numbers.specs.Order.{maxOf}
 use Rattle.numbers.specs.Whole.{ceilOf}
 use Rattle.numbers.specs.Circle.{degreesOf}
-use Rattle.numbers.specs.Small.{f1}
+use Rattle.numbers.specs.Small.{f1, c05, nano}
 use Rattle.geom.specs.Vec.{f0}
 use Rattle.setup.specs.Layout.{run}
 use Rattle.setup.proofs.PartLaws.{part-is}
 use Rattle.cutting.specs.declared.piece.State.{State}
 use Rattle.report.specs.Kinds.{kindsOf}
-use Rattle.report.specs.Report.{small, c05, layersOf, remainingOf, areaOf, reportOf}
+use Rattle.report.specs.Report.{layersOf, remainingOf, areaOf, reportOf}
 use Rattle.report.specs.declared.kinds.Kinds.{Kinds}
 use Rattle.report.specs.declared.standing.Left.{Left}
 use Rattle.report.specs.declared.report.Finish.{Finish}
 
-pub layers-is : (top bottom step up m : Float) (n : ℕ) → up ≡ ceilOf (sub binary64 (div binary64 (sub binary64 top bottom) step) small) → m ≡ maxOf up f1 → n ≡ toUnsigned 64 m → n ≡ layersOf top bottom step
+pub layers-is : (top bottom step up m : Float) (n : ℕ) → up ≡ ceilOf (sub binary64 (div binary64 (sub binary64 top bottom) step) nano) → m ≡ maxOf up f1 → n ≡ toUnsigned 64 m → n ≡ layersOf top bottom step
 unfolding layersOf
 layers-is top bottom step up m n U M N = N ∙ ap (toUnsigned 64) (M ∙ ap (λ (x : Float). maxOf x f1) U)
 
@@ -42,7 +42,7 @@ module _ (cell : Float) (f : Finish) (t : State) (b rows : List ℕ) (triples : 
       (count : Kinds) (C : count ≡ kindsOf rows triples (t .rows)) (x y z degrees removed floor : Float) (X : x ≡ float (f .starting)) (Y : y ≡ float (left .reach)) (Z : z ≡ float (left .unreach))
       (layers : ℕ) (LAYERS : layers ≡ layersOf (f .top) (f .bottom) (f .«step_down»)) (D : degrees ≡ degreesOf (t .«planned_max»))
       (R : removed ≡ maxOf (sub binary64 (sub binary64 (mul binary64 x (mul binary64 cell cell)) (mul binary64 y (mul binary64 cell cell))) (mul binary64 z (mul binary64 cell cell))) f0)
-      (F : floor ≡ maxOf (mul binary64 x (mul binary64 cell cell)) small) where
+      (F : floor ≡ maxOf (mul binary64 x (mul binary64 cell cell)) nano) where
     left-is : left ≡ remainingOf map reach
     left-is = L ∙ ap (λ (l : List ℕ). remainingOf l (take (a + n - a) (drop a b))) map-is ∙ ap (remainingOf map) reach-is
 
@@ -93,5 +93,5 @@ module _ (cell : Float) (f : Finish) (t : State) (b rows : List ℕ) (triples : 
       «standing_cells» = (S ∙ ap ones map-is) i;
       «helix_given_up» = f .«given_up»;
       «spent_budget» = f .spent;
-      «left_reachable» = lt (mul binary64 c05 ((F ∙ ap (λ (q : Float). maxOf q small) initial-is) i)) (near-is i);
+      «left_reachable» = lt (mul binary64 c05 ((F ∙ ap (λ (q : Float). maxOf q nano) initial-is) i)) (near-is i);
     }

@@ -11,7 +11,7 @@ use Rattle.numbers.specs.Cast.{float}
 use Rattle.numbers.specs.Order.{maxOf}
 use Rattle.numbers.specs.Whole.{ceilOf}
 use Rattle.numbers.specs.Circle.{degreesOf}
-use Rattle.numbers.specs.Small.{f1}
+use Rattle.numbers.specs.Small.{f1, c05, nano}
 use Rattle.geom.specs.Vec.{f0}
 use Rattle.events.specs.Told.{Report}
 use Rattle.cutting.specs.declared.piece.State.{State}
@@ -20,16 +20,9 @@ use Rattle.report.specs.declared.report.AdaptiveReport.{AdaptiveReport}
 use Rattle.report.specs.declared.report.Finish.{Finish}
 use Rattle.report.specs.declared.standing.Left.{Left}
 
--- 1e-9 and 0.05
-abbrev pub small : Float
-small = ofBits binary64 0x3e11_2e0b_e826_d695
-
-abbrev pub c05 : Float
-c05 = ofBits binary64 0x3fa9_9999_9999_999a
-
 -- ((depth / step_down) - 1e-9).ceil().max(1.0) as usize
 unfoldable pub layersOf : Float → Float → Float → ℕ
-layersOf top bottom step = toUnsigned 64 (maxOf (ceilOf (sub binary64 (div binary64 (sub binary64 top bottom) step) small)) f1)
+layersOf top bottom step = toUnsigned 64 (maxOf (ceilOf (sub binary64 (div binary64 (sub binary64 top bottom) step) nano)) f1)
 
 -- ---- the stock that is left
 
@@ -74,7 +67,7 @@ reportOf cell f t map reach rows triples =
       «standing_cells» = ones map;
       «helix_given_up» = f .«given_up»;
       «spent_budget» = f .spent;
-      «left_reachable» = lt (mul binary64 c05 (maxOf initial small)) remaining;
+      «left_reachable» = lt (mul binary64 c05 (maxOf initial nano)) remaining;
     }
 
 -- the numbers of it that the events settle

@@ -16,7 +16,7 @@ use Rattle.floats.proofs.NumberLaws.{mul-number}
 use Rattle.floats.proofs.ShareLaws.{Normal, normal-of, normal-positive}
 use Rattle.numbers.specs.Circle.{pi, radiansOf}
 use Rattle.numbers.specs.Whole.{ceilOf}
-use Rattle.numbers.specs.Small.{f1, f4}
+use Rattle.numbers.specs.Small.{f1, f4, f180}
 use Rattle.setup.specs.Limits.{guardOf, targetOf, samplesFor}
 use Rattle.setup.proofs.GuardLaws.{guard-lt, guard-above, guard-fits, target-le}
 
@@ -37,9 +37,6 @@ module _ (r cell x : Float) (n : ℕ) (X : x ≡ ceilOf (div binary64 (mul binar
   samples-same h k = few n (omega arith)
 
 -- ---- the limit of an engagement of 1 to 180 degrees, in radians
-
-abbrev f180 : Float
-f180 = ofBits binary64 0x4066_8000_0000_0000
 
 abbrev factor : Float
 factor = div binary64 pi f180

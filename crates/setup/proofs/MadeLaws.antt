@@ -7,7 +7,7 @@ use native.Mathlib.Omega.{arith}
 use lib.Ieee.{Float, binary64, ofBits, lt, le}
 use Rattle.numbers.specs.Bound.{Bounds}
 use Rattle.numbers.specs.Circle.{radiansOf}
-use Rattle.numbers.specs.Small.{f1}
+use Rattle.numbers.specs.Small.{f1, f180}
 use Rattle.numbers.proofs.BoundLaws.{bounds-of}
 use Rattle.geom.specs.declared.region.Region.{Region}
 use Rattle.raster.specs.declared.grid.Grid.{Grid}
@@ -32,7 +32,7 @@ module _ (g : Grid) (region : Region) (diameter leave degrees : Float) (down : B
   unfolding setupOf
   made-bound = bounds-of _
 
-  module _ (low : le f1 degrees ≡ true) (high : lt degrees (ofBits binary64 0x4066_8000_0000_0000) ≡ true) where
+  module _ (low : le f1 degrees ≡ true) (high : lt degrees f180 ≡ true) where
     -- every contact at most the guard is below the limit
     pub made-guard : lt (made .guard) (radiansOf degrees) ≡ true
     unfolding setupOf

@@ -8,7 +8,7 @@ use lib.Ieee.{Float, binary32, binary64, ofBits, mul, div}
 use Rattle.loops.specs.Loop.{loop, Run, on, out, turn}
 use Rattle.numbers.specs.Cast.{float}
 use Rattle.numbers.specs.Circle.{tau}
-use Rattle.numbers.specs.Small.{quarter}
+use Rattle.numbers.specs.Small.{f16, quarter}
 use Rattle.distance.specs.Nearest.{listed}
 use Rattle.geom.specs.Vec.{sum, scaled, fromAngle}
 use Rattle.geom.specs.Points.{putPoint}
@@ -27,10 +27,6 @@ use Rattle.tracing.specs.declared.nudge.Nudge.{Nudge}
 use Rattle.tracing.specs.declared.nudge.Nudge.the-variants.{Still, To}
 
 -- ---- a point pulled to the allowed side
-
--- 16.0
-abbrev pub f16 : Float
-f16 = ofBits binary64 0x4030_0000_0000_0000
 
 -- point k of sixteen round q, at r quarters of a cell: q + Vec2::from_angle(TAU * k as f64 / 16.0) * (r as f64 * 0.25 * self.cell)
 unfoldable pub aroundOf : Float → Vec2 → ℕ → ℕ → Vec2
