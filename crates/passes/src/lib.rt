@@ -6,4 +6,4 @@ mod guide;
 pub mod shifts;
 pub mod start;
 pub mod trial;
-mod worth;
+pub mod worth;
