@@ -1,3 +1,8 @@
--- `AskedLaws`: what the first no says. `LeafLaws`: answers by it, and of the lent slices. For the proofs of the functions.
+-- `KeptLaws`: what a crescent leaves of its log, for readers. The others are for the proofs of the functions.
 pub mod AskedLaws
 pub mod LeafLaws
+pub mod CrescentLaws
+pub mod KeptLaws
+pub mod LoggedLaws
+pub mod ShapeLaws
+pub mod FarLaws

@@ -94,9 +94,9 @@ pub fn of_single(a: Single) -> PocketSingle
             refused: no,
             value: 0.0,
         },
-        Single::Of(x) => PocketSingle {
+        Single::Of(y) => PocketSingle {
             refused: 0,
-            value: x,
+            value: y,
         },
     }
 }

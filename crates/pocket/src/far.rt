@@ -1,5 +1,6 @@
 // The distance map.
 ghost use mathlib.Core.Path.{_≡_};
+ghost use Rattle.distance.specs.Least.{Transformed};
 ghost use Rattle.pocket.specs.Answers.{ofDone};
 ghost use Rattle.pocket.specs.Refusals.{farRefusal};
 ghost use Rattle.pocket.specs.Leaves.{onFar, toldFar, distanceMapOf};
@@ -21,7 +22,7 @@ fn far_refusal(nx: usize, ny: usize, marks: usize, squares: usize, distances: us
     15
 }
 
-// The distance of each cell to the nearest whose byte is `mark`: squared, and its root.
+// The distance of each cell to the nearest whose byte is `mark`: the least exact square, and its rounded root.
 pub fn distance_map(
     nx: usize,
     ny: usize,
@@ -31,6 +32,7 @@ pub fn distance_map(
     distances: &mut [f64],
 ) -> Done
     ensures { λ a. ⌜ onFar a (now (squares .exit)) (now (distances .exit)) ≡ distanceMapOf nx ny (now (marks .entry)) mark (now (squares .entry)) (now (distances .entry)) ⌝ }
+    ensures { λ a. ⌜ (a ≡ Done.Finished → Transformed mark (now (marks .entry)) nx ny (now (squares .entry)) (now (squares .exit))) ⌝ }
 {
     let no = far_refusal(nx, ny, marks.len(), squares.len(), distances.len());
     if no != 0 {
@@ -51,6 +53,7 @@ pub extern "C" fn pocket_distance_map(
     distances: &mut [f64],
 ) -> u32
     ensures { λ n. ⌜ onFar n (now (squares .exit)) (now (distances .exit)) ≡ toldFar ofDone (distanceMapOf nx ny (now (marks .entry)) mark (now (squares .entry)) (now (distances .entry))) ⌝ }
+    ensures { λ n. ⌜ (n ≡ 0 → Transformed mark (now (marks .entry)) nx ny (now (squares .entry)) (now (squares .exit))) ⌝ }
 {
     of_done(distance_map(nx, ny, marks, mark, squares, distances))
 }

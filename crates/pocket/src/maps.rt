@@ -1,6 +1,7 @@
 // The stock map: a disk cleared or counted, the whole counted.
 ghost use mathlib.Core.Path.{_≡_};
 ghost use Rattle.pocket.specs.Answers.{ofCount};
+ghost use Rattle.pocket.specs.Refusals.{diskRefusal};
 ghost use Rattle.pocket.specs.Leaves.{onMap, toldMap, clearDiskOf, countDiskOf, standingOf};
 use super::answers::Count;
 use super::answers::PocketCount;
@@ -12,11 +13,17 @@ use super::refusals::size_refusal;
 use geom::vec2::Vec2;
 use raster::grid::Grid;
 
+fn disk_refusal(g: Grid, c: Vec2, r: f64, long: usize) -> u32
+    ensures { λ n. ⌜ n ≡ diskRefusal g c r long ⌝ }
+{
+    map_refusal(grid_fits(g) & disk_fits(c, r), g.nx, g.ny, long)
+}
+
 // Clears the disk of radius r at c; how many cells were stock.
 pub fn clear_disk(g: Grid, map: &mut [u8], c: Vec2, r: f64) -> Count
     ensures { λ a. ⌜ onMap a (now (map .exit)) ≡ clearDiskOf g c r (now (map .entry)) ⌝ }
 {
-    let no = map_refusal(grid_fits(g) & disk_fits(c, r), g.nx, g.ny, map.len());
+    let no = disk_refusal(g, c, r, map.len());
     if no != 0 {
         return Count::Refused(no);
     }
@@ -27,7 +34,7 @@ pub fn clear_disk(g: Grid, map: &mut [u8], c: Vec2, r: f64) -> Count
 pub fn count_disk(g: Grid, map: &[u8], c: Vec2, r: f64) -> Count
     ensures { λ a. ⌜ a ≡ countDiskOf g c r (now (map .entry)) ⌝ }
 {
-    let no = map_refusal(grid_fits(g) & disk_fits(c, r), g.nx, g.ny, map.len());
+    let no = disk_refusal(g, c, r, map.len());
     if no != 0 {
         return Count::Refused(no);
     }

@@ -17,13 +17,20 @@ unfolding farRefusal
 returns c = when-not _ _ (c .before .sides-fit .ensures) (not-true _ (c .if1 .taken)) _ _
 
 mul-n : tie.Need-mul-n
-mul-n c = let s = c .before .before .args in omega (arith, sides-few (s .nx) (s .ny) (sym (c .before .sides-fit .ensures) ∙ not-false _ (c .if1 .left)))
+mul-n c =
+    let s = c .before .before .args in
+    omega (arith, sides-few (s .nx) (s .ny) (sym (c .before .sides-fit .ensures) ∙ not-false _ (c .if1 .left)))
 
 mul-if2 : tie.Need-mul-if2
-mul-if2 c = let s = c .before .before .args in omega (arith, map-sides (s .nx) (s .ny) (sym (c .before .sides-fit .ensures) ∙ not-false _ (c .if1 .left)) .wide)
+mul-if2 c =
+    let s = c .before .before .args in
+    omega (arith, map-sides (s .nx) (s .ny) (sym (c .before .sides-fit .ensures) ∙ not-false _ (c .if1 .left)) .wide)
 
 add-if2 : tie.Need-add-if2
-add-if2 c = let s = c .before .before .args in let y = (sym (c .before .sides-fit .ensures) ∙ not-false _ (c .if1 .left)) in omega (arith, sides-few (s .nx) (s .ny) y, map-sides (s .nx) (s .ny) y .wide)
+add-if2 c =
+    let s = c .before .before .args in
+    let y = (sym (c .before .sides-fit .ensures) ∙ not-false _ (c .if1 .left)) in
+    omega (arith, sides-few (s .nx) (s .ny) y, map-sides (s .nx) (s .ny) y .wide)
 
 returns-2 : tie.Need-returns-2
 unfolding farRefusal

@@ -7,7 +7,7 @@ use borrow.Author.Needs.{needs}
 use Rattle.loops.specs.Loop.{orAt}
 use Rattle.loops.proofs.LoopLaws.{Going, going-none, any-on, any-out, any-none}
 use Rattle.pocket.specs.Refusals.{past}
-use Rattle.pocket.proofs.AskedLaws.{log-short, log-past, log-within}
+use Rattle.pocket.proofs.LoggedLaws.{log-short, log-past, log-within}
 use Rattle.pocket.proofs.logs.log_fits.Statement.{statement}
 use Rattle.pocket.proofs.logs.log_fits.Tie as tie
 
@@ -33,7 +33,9 @@ cast-if2 : tie.Need-cast-if2 Inv-loop μ-loop
 cast-if2 c = omega (arith, c .shared-slice-known .given (c .before .before .loop .k))
 
 returns-2 : tie.Need-returns-2 Inv-loop μ-loop
-returns-2 c = let s = c .before .before .before .before .before .args in log-past (s .log .now) _ _ (c .before .before .before .before .if1 .left) (any-out _ _ _ (c .before .before .before .loop .k) (c .before .before .before .loop .inv) (c .before .before .loop-test .taken) (le-leb _ _ (c .if2 .taken)))
+returns-2 c =
+    let s = c .before .before .before .before .before .args in
+    log-past (s .log .now) _ _ (c .before .before .before .before .if1 .left) (any-out _ _ _ (c .before .before .before .loop .k) (c .before .before .before .loop .inv) (c .before .before .loop-test .taken) (le-leb _ _ (c .if2 .taken)))
 
 add-k : tie.Need-add-k Inv-loop μ-loop
 add-k c = search needs
@@ -45,7 +47,9 @@ loop-again : tie.Need-loop-again Inv-loop μ-loop
 loop-again c = any-on _ _ _ (c .before .before .before .loop .k) (c .before .before .before .loop .inv) (c .before .before .loop-test .taken) (lt-leb _ _ (c .if2 .left))
 
 returns-3 : tie.Need-returns-3 Inv-loop μ-loop
-returns-3 c = let s = c .before .before .before .args in log-within (s .log .now) _ _ (c .before .before .if1 .left) (any-none _ _ _ (c .before .loop .k) (c .before .loop .inv) (c .loop-test .left))
+returns-3 c =
+    let s = c .before .before .before .args in
+    log-within (s .log .now) _ _ (c .before .before .if1 .left) (any-none _ _ _ (c .before .loop .k) (c .before .loop .inv) (c .loop-test .left))
 
 pub log-fits-spec : {M : Type 1} → statement M
 log-fits-spec =

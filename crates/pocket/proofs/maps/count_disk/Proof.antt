@@ -3,38 +3,24 @@ use mathlib.Core.Path.{sym, ap, _∙_}
 use borrow.Author.Needs.{needs}
 use Rattle.pocket.specs.declared.answers.Count.the-variants.{Refused, Of}
 use Rattle.pocket.specs.Leaves.{countDiskOf}
-use Rattle.pocket.proofs.AskedLaws.{both-are, map-by, map-over}
+use Rattle.pocket.proofs.AskedLaws.{map-over}
 use Rattle.pocket.proofs.LeafLaws.{is-refused, is-answered}
 use Rattle.pocket.proofs.maps.count_disk.Statement.{statement}
 use Rattle.pocket.proofs.maps.count_disk.Tie as tie
 
-grid-fits-requires : tie.Need-grid-fits-requires
-grid-fits-requires c κs = search needs
-
-disk-fits-requires : tie.Need-disk-fits-requires
-disk-fits-requires c κs = search needs
-
-map-refusal-requires : tie.Need-map-refusal-requires
-map-refusal-requires c κs = search needs
+disk-refusal-requires : tie.Need-disk-refusal-requires
+disk-refusal-requires c κs = search needs
 
 returns : tie.Need-returns
 unfolding countDiskOf
-returns c = is-refused Refused _ _ (map-by _ _ _ _ _ _ (both-are (c .before .before .before .grid-fits .ensures) (c .before .before .disk-fits .ensures)) (c .before .map-refusal .ensures)) (c .if1 .taken) _
+returns c = is-refused Refused _ _ (c .before .disk-refusal .ensures) (c .if1 .taken) _
 
 count-disk-requires : tie.Need-count-disk-requires
-count-disk-requires c κs = map-over _ _ _ (sym (c .before .map-refusal .ensures) ∙ c .if1 .left)
+count-disk-requires c κs = map-over _ _ _ (sym (c .before .disk-refusal .ensures) ∙ c .if1 .left)
 
 returns-2 : tie.Need-returns-2
 unfolding countDiskOf
-returns-2 c = is-answered Refused _ _ (map-by _ _ _ _ _ _ (both-are (c .before .before .before .before .grid-fits .ensures) (c .before .before .before .disk-fits .ensures)) (c .before .before .map-refusal .ensures)) (c .before .if1 .left) _ _ (ap Of (c .count-disk .ensures))
+returns-2 c = is-answered Refused _ _ (c .before .before .disk-refusal .ensures) (c .before .if1 .left) _ _ (ap Of (c .count-disk .ensures))
 
 pub count-disk-spec : {M : Type 1} → statement M
-count-disk-spec =
-    tie.close
-    (tie.spec
-    grid-fits-requires
-    disk-fits-requires
-    map-refusal-requires
-    returns
-    count-disk-requires
-    returns-2)
+count-disk-spec = tie.close (tie.spec disk-refusal-requires returns count-disk-requires returns-2)

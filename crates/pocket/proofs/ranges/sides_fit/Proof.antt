@@ -6,7 +6,9 @@ use Rattle.pocket.proofs.ranges.sides_fit.Statement.{statement}
 use Rattle.pocket.proofs.ranges.sides_fit.Tie as tie
 
 mul-result : tie.Need-mul-result
-mul-result c = let s = c .before .before .args in omega (arith, sides-product (s .nx) (s .ny) (c .before .if1 .taken) (c .if2 .taken))
+mul-result c =
+    let s = c .before .before .args in
+    omega (arith, sides-product (s .nx) (s .ny) (c .before .if1 .taken) (c .if2 .taken))
 
 returns : tie.Need-returns
 unfolding sidesFit

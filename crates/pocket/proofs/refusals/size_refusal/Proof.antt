@@ -14,7 +14,9 @@ returns : tie.Need-returns
 returns c = size-odd _ _ _ (sym (c .before .sides-fit .ensures) ∙ not-true _ (c .if1 .taken))
 
 mul-if2 : tie.Need-mul-if2
-mul-if2 c = let s = c .before .before .args in omega (arith, sides-few (s .nx) (s .ny) (sym (c .before .sides-fit .ensures) ∙ not-false _ (c .if1 .left)))
+mul-if2 c =
+    let s = c .before .before .args in
+    omega (arith, sides-few (s .nx) (s .ny) (sym (c .before .sides-fit .ensures) ∙ not-false _ (c .if1 .left)))
 
 returns-2 : tie.Need-returns-2
 returns-2 c = size-short _ _ _ (sym (c .before .before .sides-fit .ensures) ∙ not-false _ (c .before .if1 .left)) (c .if2 .taken)

@@ -3,8 +3,8 @@ use mathlib.Core.Path.{refl, sym, ap, _∙_}
 use borrow.Author.Needs.{needs}
 use Rattle.pocket.specs.declared.answers.Number.the-variants.{Refused, Of}
 use Rattle.pocket.specs.Leaves.{contactOf}
-use Rattle.pocket.proofs.AskedLaws.{both-are, map-by, map-none, map-over, samples-few}
-use Rattle.pocket.proofs.LeafLaws.{is-refused, is-answered, rim-at}
+use Rattle.pocket.proofs.AskedLaws.{both-are, map-by, map-none, map-over, samples-few, rim-at}
+use Rattle.pocket.proofs.LeafLaws.{is-refused, is-answered}
 use Rattle.pocket.proofs.rim.contact.Statement.{statement}
 use Rattle.pocket.proofs.rim.contact.Tie as tie
 
