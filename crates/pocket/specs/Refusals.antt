@@ -43,10 +43,11 @@ crescentRefusal g prev c r m long used =
     let n = g .ny * g .nx in
     ask 12 (gridFit g && (pointFit prev && diskFit c r)) (ask 14 (sidesFit (g .nx) (g .ny)) (ask 15 (leb n (length m) && roomFit n m long used) 0))
 
--- the log has its used part, and each cell there is below n
+-- entry k of a log is no cell below n
 abbrev pub past : List ℕ → ℕ → ℕ → Bool
 past log n k = leb n (getD log k 0)
 
+-- the log has its used part, and each cell there is below n
 unfoldable pub logFit : List ℕ → ℕ → ℕ → Bool
 logFit log used n = leb used (length log) && not (any (past log n) 0 used)
 
