@@ -11,16 +11,16 @@ use Rattle.planner.specs.Answered.{AnswerTold}
 use Rattle.planner.specs.declared.outcome.Answer.{Answer}
 use Rattle.planner.specs.declared.outcome.Answer.the-variants.{Refused, Accepted}
 use Rattle.report.specs.declared.report.AdaptiveReport.{AdaptiveReport}
-use Rattle.pocket.specs.Plan.{noReport, planned, answerOf, told, toldOf}
-use Rattle.pocket.specs.declared.adaptive.Planned.{Planned}
+use Rattle.pocket.specs.Plan.{noReport, answered, ofAnswer, told, toldOf}
+use Rattle.pocket.specs.declared.adaptive.PocketAnswer.{PocketAnswer}
 
-pub accepted-is : (a : Answer) (r : AdaptiveReport) → a ≡ Accepted r → planned 0 r ≡ answerOf a
-unfolding answerOf
-accepted-is a r e = subst (λ (x : Answer). planned 0 r ≡ answerOf x) (sym e) refl
+pub accepted-is : (a : Answer) (r : AdaptiveReport) → a ≡ Accepted r → answered 0 r ≡ ofAnswer a
+unfolding ofAnswer
+accepted-is a r e = subst (λ (x : Answer). answered 0 r ≡ ofAnswer x) (sym e) refl
 
-pub refused-is : (a : Answer) (n : ℕ) (r : AdaptiveReport) → a ≡ Refused n → r ≡ noReport → planned n r ≡ answerOf a
-unfolding answerOf
-refused-is a n r e f = subst (λ (x : Answer). planned n r ≡ answerOf x) (sym e) (subst (λ (x : AdaptiveReport). planned n x ≡ planned n noReport) (sym f) refl)
+pub refused-is : (a : Answer) (n : ℕ) (r : AdaptiveReport) → a ≡ Refused n → r ≡ noReport → answered n r ≡ ofAnswer a
+unfolding ofAnswer
+refused-is a n r e f = subst (λ (x : Answer). answered n r ≡ ofAnswer x) (sym e) (subst (λ (x : AdaptiveReport). answered n x ≡ answered n noReport) (sym f) refl)
 
 -- the parameters q are those that were made of C's, p
 module _ (q p : AdaptiveParams) (Q : q ≡ p) (whole : Bool) (vs : List Float) (lens regions : List ℕ) (was left : Lent) (a : Answer) where
@@ -31,8 +31,8 @@ module _ (q p : AdaptiveParams) (Q : q ≡ p) (whole : Bool) (vs : List Float) (
     same : outcome left a ≡ outcomeOf (of p) was
     same = subst (λ (x : AdaptiveParams). outcome left a ≡ outcomeOf (of x) was) Q e
 
-    pub plan-told : (r : Planned) → r ≡ answerOf a → told left r ≡ toldOf (outcomeOf (of p) was)
-    plan-told r f = subst (λ (o : Outcome). told left r ≡ toldOf o) same (subst (λ (x : Planned). told left x ≡ told left (answerOf a)) (sym f) refl)
+    pub plan-told : (r : PocketAnswer) → r ≡ ofAnswer a → told left r ≡ toldOf (outcomeOf (of p) was)
+    plan-told r f = subst (λ (o : Outcome). told left r ≡ toldOf o) same (subst (λ (x : PocketAnswer). told left x ≡ told left (ofAnswer a)) (sym f) refl)
 
     pub plan-answered : AnswerTold (of q) was left a → AnswerTold (of p) was left (outcomeOf (of p) was .answer)
     plan-answered t =

@@ -10,14 +10,14 @@ use Rattle.report.specs.Zero.{Lent}
 use Rattle.planner.specs.Planner.{Outcome}
 use Rattle.planner.specs.declared.outcome.Answer.{Answer}
 use Rattle.planner.specs.declared.outcome.Answer.the-variants.{Refused, Accepted}
-use Rattle.pocket.specs.declared.adaptive.GivenOrNot.{GivenOrNot}
-use Rattle.pocket.specs.declared.adaptive.Params.{Params}
-use Rattle.pocket.specs.declared.adaptive.Planned.{Planned}
+use Rattle.pocket.specs.declared.adaptive.PocketSetting.{PocketSetting}
+use Rattle.pocket.specs.declared.adaptive.PocketParams.{PocketParams}
+use Rattle.pocket.specs.declared.adaptive.PocketAnswer.{PocketAnswer}
 
-unfoldable pub settingOf : GivenOrNot → Setting
+unfoldable pub settingOf : PocketSetting → Setting
 settingOf s = cond (s .given) (Given (s .value)) Absent
 
-unfoldable pub paramsOf : Params → AdaptiveParams
+unfoldable pub paramsOf : PocketParams → AdaptiveParams
 paramsOf p = record {
   «tool_diameter» = p .«tool_diameter»;
   «max_engagement_deg» = p .«max_engagement_deg»;
@@ -55,21 +55,21 @@ noReport = record {
   «left_reachable» = false;
 }
 
-abbrev pub planned : ℕ → AdaptiveReport → Planned
-planned n r = record { refused = n; report = r }
+abbrev pub answered : ℕ → AdaptiveReport → PocketAnswer
+answered n r = record { refused = n; report = r }
 
 -- document 01's number, or 0 and the report
-unfoldable pub answerOf : Answer → Planned
-answerOf (Refused n) = planned n noReport
-answerOf (Accepted r) = planned 0 r
+unfoldable pub ofAnswer : Answer → PocketAnswer
+ofAnswer (Refused n) = answered n noReport
+ofAnswer (Accepted r) = answered 0 r
 
 -- what comes back: the six lent slices, and the answer
 pub record Told : Type 0 where
   pub lent : Lent
-  pub answer : Planned
+  pub answer : PocketAnswer
 
-abbrev pub told : Lent → Planned → Told
+abbrev pub told : Lent → PocketAnswer → Told
 told l a = record { lent = l; answer = a }
 
 abbrev pub toldOf : Outcome → Told
-toldOf o = told (o .lent) (answerOf (o .answer))
+toldOf o = told (o .lent) (ofAnswer (o .answer))

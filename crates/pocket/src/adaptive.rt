@@ -4,7 +4,7 @@ ghost use mathlib.Core.Path.{_≡_};
 ghost use Rattle.report.specs.Zero.{lent};
 ghost use Rattle.planner.specs.Planner.{job, outcomeOf};
 ghost use Rattle.planner.specs.Answered.{AnswerTold};
-ghost use Rattle.pocket.specs.Plan.{settingOf, paramsOf, noReport, answerOf, told, toldOf};
+ghost use Rattle.pocket.specs.Plan.{settingOf, paramsOf, noReport, ofAnswer, told, toldOf};
 use entry::params::AdaptiveParams;
 use entry::params::Setting;
 use planner::outcome::Answer;
@@ -12,14 +12,14 @@ use planner::outcome::adaptive_clear;
 use report::report::AdaptiveReport;
 
 #[repr(C)]
-pub struct GivenOrNot {
+pub struct PocketSetting {
     pub given: bool,
     pub value: f64,
 }
 
 // `AdaptiveParams` as C has it.
 #[repr(C)]
-pub struct Params {
+pub struct PocketParams {
     pub tool_diameter: f64,
     pub max_engagement_deg: f64,
     pub step_down: f64,
@@ -31,19 +31,19 @@ pub struct Params {
     pub plunge_feed: f64,
     pub link_feed: f64,
     pub helix_ramp_deg: f64,
-    pub helix_radius: GivenOrNot,
-    pub chip_thinning_max: GivenOrNot,
-    pub resolution: GivenOrNot,
+    pub helix_radius: PocketSetting,
+    pub chip_thinning_max: PocketSetting,
+    pub resolution: PocketSetting,
     pub keep_tool_down: bool,
 }
 
 #[repr(C)]
-pub struct Planned {
+pub struct PocketAnswer {
     pub refused: u32,
     pub report: AdaptiveReport,
 }
 
-fn setting(s: GivenOrNot) -> Setting
+fn setting(s: PocketSetting) -> Setting
     ensures { λ r. ⌜ r ≡ settingOf s ⌝ }
 {
     if s.given {
@@ -52,7 +52,7 @@ fn setting(s: GivenOrNot) -> Setting
     Setting::Absent
 }
 
-fn params_of(p: Params) -> AdaptiveParams
+fn params_of(p: PocketParams) -> AdaptiveParams
     ensures { λ r. ⌜ r ≡ paramsOf p ⌝ }
 {
     let helix = p.helix_radius;
@@ -98,14 +98,14 @@ fn no_report() -> AdaptiveReport
     }
 }
 
-fn answer_of(a: Answer) -> Planned
-    ensures { λ r. ⌜ r ≡ answerOf a ⌝ }
+fn of_answer(a: Answer) -> PocketAnswer
+    ensures { λ r. ⌜ r ≡ ofAnswer a ⌝ }
 {
     match a {
-        Answer::Accepted(report) => Planned { refused: 0, report },
+        Answer::Accepted(report) => PocketAnswer { refused: 0, report },
         Answer::Refused(n) => {
             let report = no_report();
-            Planned { refused: n, report }
+            PocketAnswer { refused: n, report }
         }
     }
 }
@@ -113,7 +113,7 @@ fn answer_of(a: Answer) -> Planned
 // Plans a job, whatever is lent.
 #[no_mangle]
 pub extern "C" fn pocket_adaptive_clear(
-    p: Params,
+    p: PocketParams,
     whole: bool,
     vs: &[f64],
     lens: &[u32],
@@ -124,11 +124,11 @@ pub extern "C" fn pocket_adaptive_clear(
     w: &mut [f64],
     rows: &mut [u32],
     triples: &mut [f64],
-) -> Planned
+) -> PocketAnswer
     ensures { λ a. ⌜ told (lent (now (b .exit)) (now (u .exit)) (now (f .exit)) (now (w .exit)) (now (rows .exit)) (now (triples .exit))) a ≡ toldOf (outcomeOf (job (paramsOf p) whole (now (vs .entry)) (now (lens .entry)) (now (regions .entry))) (lent (now (b .entry)) (now (u .entry)) (now (f .entry)) (now (w .entry)) (now (rows .entry)) (now (triples .entry)))) ⌝ }
     ensures { λ _. ⌜ AnswerTold (job (paramsOf p) whole (now (vs .entry)) (now (lens .entry)) (now (regions .entry))) (lent (now (b .entry)) (now (u .entry)) (now (f .entry)) (now (w .entry)) (now (rows .entry)) (now (triples .entry))) (lent (now (b .exit)) (now (u .exit)) (now (f .exit)) (now (w .exit)) (now (rows .exit)) (now (triples .exit))) (outcomeOf (job (paramsOf p) whole (now (vs .entry)) (now (lens .entry)) (now (regions .entry))) (lent (now (b .entry)) (now (u .entry)) (now (f .entry)) (now (w .entry)) (now (rows .entry)) (now (triples .entry))) .answer) ⌝ }
 {
     let q = params_of(p);
     let a = adaptive_clear(q, whole, vs, lens, regions, b, u, f, w, rows, triples);
-    answer_of(a)
+    of_answer(a)
 }

@@ -12,8 +12,7 @@ const WAIT: Duration = Duration::from_secs(60);
 /// The browser's program, if there is one.
 pub fn installed() -> Option<PathBuf> {
     let path = std::env::var_os("PATH")?;
-    let names = ["chromium", "chromium-browser", "google-chrome"];
-    std::env::split_paths(&path).flat_map(|d| names.map(|n| d.join(n))).find(|p| p.is_file())
+    std::env::split_paths(&path).map(|folder| folder.join("chromium")).find(|program| program.is_file())
 }
 
 pub struct Browser {

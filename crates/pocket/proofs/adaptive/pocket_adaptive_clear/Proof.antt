@@ -10,8 +10,8 @@ params-of-requires c κs = search needs
 adaptive-clear-requires : tie.Need-adaptive-clear-requires
 adaptive-clear-requires c κs = search needs
 
-answer-of-requires : tie.Need-answer-of-requires
-answer-of-requires c κs = search needs
+of-answer-requires : tie.Need-of-answer-requires
+of-answer-requires c κs = search needs
 
 same-length : tie.Need-same-length
 same-length c = search needs
@@ -36,7 +36,7 @@ returns c =
     let m = c .before .before .before .before .before .before .before .before .before .before .before .before .before in
     let s = m .before .before .before .before .before .before .before in
     let a = s .before .before .before .before .before .before .before .before .before .before .args in
-    let l = plan-told _ _ (s .params-of .ensures) _ (a .vs .now) (a .lens .now) (a .regions .now) _ _ _ (m .adaptive-clear .ensures .0) _ (c .answer-of .ensures) in
+    let l = plan-told _ _ (s .params-of .ensures) _ (a .vs .now) (a .lens .now) (a .regions .now) _ _ _ (m .adaptive-clear .ensures .0) _ (c .of-answer .ensures) in
     let t = plan-answered _ _ (s .params-of .ensures) _ (a .vs .now) (a .lens .now) (a .regions .now) _ _ _ (m .adaptive-clear .ensures .0) (m .adaptive-clear .ensures .1) in
     (l, t)
 
@@ -46,7 +46,7 @@ pocket-adaptive-clear-spec =
     (tie.spec
     params-of-requires
     adaptive-clear-requires
-    answer-of-requires
+    of-answer-requires
     same-length
     same-length-2
     same-length-3

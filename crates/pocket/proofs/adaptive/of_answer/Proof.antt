@@ -1,8 +1,8 @@
--- `pocket::adaptive::answer_of` meets its contract. Assumes nothing.
+-- `pocket::adaptive::of_answer` meets its contract. Assumes nothing.
 use Rattle.pocket.proofs.PlanLaws.{accepted-is, refused-is}
 use borrow.Author.Needs.{needs}
-use Rattle.pocket.proofs.adaptive.answer_of.Statement.{statement}
-use Rattle.pocket.proofs.adaptive.answer_of.Tie as tie
+use Rattle.pocket.proofs.adaptive.of_answer.Statement.{statement}
+use Rattle.pocket.proofs.adaptive.of_answer.Tie as tie
 
 enum-known-a : tie.Need-enum-known-a
 enum-known-a c = search needs
@@ -19,6 +19,6 @@ returns c = accepted-is _ _ (c .before .a .given .1)
 returns-2 : tie.Need-returns-2
 returns-2 c = refused-is _ _ _ (c .before .before .a2 .given .1) (c .no-report .ensures)
 
-pub answer-of-spec : {M : Type 1} → statement M
-answer-of-spec =
+pub of-answer-spec : {M : Type 1} → statement M
+of-answer-spec =
     tie.close (tie.spec enum-known-a enum-known-a-2 no-report-requires returns returns-2)
