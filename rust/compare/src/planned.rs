@@ -1,7 +1,7 @@
 //! A whole job planned by the proved library and by the oracle: answer, report, rows, triples, final map, zeros everywhere
 //! else, and what lies around the lent slices.
 use crate::noisy::Noisy;
-use crate::planner::{Answer, Report, Slices, adaptive_clear};
+use crate::planner::{Answer, Report, Slices, adaptive_clear, numbers, report};
 use crate::raw::Raw;
 use oracle::entry;
 use oracle::generate::Rng;
@@ -61,11 +61,11 @@ impl Planned {
         if found != number {
             return Some(format!("answer {found}, not {number}"));
         }
-        let report = want.as_ref().map_or(Report::default(), |plan| Report::new(&plan.report));
+        let wanted = want.as_ref().map_or(Report::default(), |plan| report(&plan.report));
         let sound = [
             ("the job has changed", self.unread()),
             ("something around a lent slice has changed", self.guarded()),
-            ("the report differs", self.answer.report.numbers() == report.numbers()),
+            ("the report differs", numbers(&self.answer.report) == numbers(&wanted)),
             ("a lent slice differs", self.left(want)),
         ];
         sound.into_iter().find(|(_, holds)| !holds).map(|(what, _)| what.into())

@@ -1,5 +1,5 @@
 //! A job as the library is lent it. Nothing in it need fit together.
-use crate::planner::Params;
+use crate::planner::{Params, params};
 use oracle::entry;
 use oracle::generate::Rng;
 use oracle::job::Job;
@@ -38,7 +38,7 @@ impl Raw {
     pub fn new(job: &Job) -> Raw {
         let [bytes, words, singles, doubles] = workspace(job);
         Raw {
-            params: Params::new(&job.params, f64::NAN),
+            params: params(&job.params, f64::NAN),
             whole: job.stock.is_none(),
             vertices: job.verts.iter().flat_map(|v| [v.x, v.y]).collect(),
             lengths: regions(job).flatten().map(|&n| n as u32).collect(),
@@ -51,7 +51,7 @@ impl Raw {
     /// one or two numbers, which counts for no row and no triple; the number of a setting that is absent.
     pub fn varied(r: &mut Rng, job: &Job) -> Raw {
         let absent = r.pick(&[f64::NAN, f64::INFINITY, -1.0, 0.0, 1.0, f64::MAX]);
-        let mut raw = Raw { params: Params::new(&job.params, absent), ..Raw::new(job) };
+        let mut raw = Raw { params: params(&job.params, absent), ..Raw::new(job) };
         for (length, said) in raw.lent.iter_mut().zip(job.lent) {
             *length += if said.is_none() { r.pick(&[0, 0, 1, 100]) } else { 0 };
         }

@@ -2,7 +2,7 @@
 //! that are torn, slices longer than a u32 can count.
 use compare::drawn::{Size, drawn};
 use compare::extreme::{cases, point};
-use compare::planner::{Params, Slices, adaptive_clear};
+use compare::planner::{Slices, adaptive_clear, params};
 use compare::raw::workspace;
 use compare::reserved::Reserved;
 use oracle::generate::Rng;
@@ -56,7 +56,7 @@ fn answer(vertices: &mut [u64], lengths: &mut [u32], regions: &mut [u32]) -> u32
         rows: &mut [],
         triples: &mut [],
     };
-    adaptive_clear(&Params::new(&job.params, 0.0), false, lent).refused
+    adaptive_clear(&params(&job.params, 0.0), false, lent).refused
 }
 
 /// Lists whose lengths fit only where they are cut to 32 bits.

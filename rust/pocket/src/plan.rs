@@ -27,7 +27,7 @@ impl Grid {
 }
 
 /// Areas are in square mm, of whole cells.
-#[derive(Clone, Copy, Debug, PartialEq)]
+#[derive(Clone, Copy, Debug, Default, PartialEq)]
 #[repr(C)]
 pub struct Report {
     pub layers: usize,

@@ -1,7 +1,7 @@
 //! Times whole plans of the proved library beside the Rust, and prints the tables of docs/PERFORMANCE.md: `cargo run
 //! --release --bin bench_plans -- [--threads T] [--only WORD]`, the word being part of a job's name. All times are of the
 //! thread's CPU.
-use compare::planner::{Answer, Report, Slices, adaptive_clear};
+use compare::planner::{Answer, Slices, adaptive_clear, numbers, report};
 use compare::raw::Raw;
 use compare::sampled::{FRAMES, Met, sampled};
 use compare::timing::cpu;
@@ -131,7 +131,7 @@ impl Lent {
     fn holds(&self, answer: &Answer, plan: &Plan) -> bool {
         let triples: Vec<u64> = plan.triples.iter().flatten().map(|x| x.to_bits()).collect();
         answer.refused == 0
-            && answer.report.numbers() == Report::new(&plan.report).numbers()
+            && numbers(&answer.report) == numbers(&report(&plan.report))
             && self.rows.starts_with(&plan.rows.concat())
             && self.triples.starts_with(&triples)
             && self.bytes.iter().zip(&plan.map).all(|(byte, stock)| *byte == *stock as u8)

@@ -1,7 +1,7 @@
 //! Writes the published planner's answers to a few stored jobs, as the program `vectors_plans` writes its own:
 //! crates/vectors_plans/README.md has the lines.
 use compare::bits::Bits;
-use compare::planner::Report;
+use compare::planner::{numbers, report};
 use compare::prints::fingerprint;
 use oracle::job::Job;
 use oracle::run::{Plan, run};
@@ -27,7 +27,7 @@ fn lines(mut job: Job, rows: usize, triples: usize) {
     (job.lent_rows, job.lent_triples) = (rows / 3, triples / 3);
     let plan = run(&job, false).answer;
     let mut words = match &plan {
-        Ok(plan) => [&[0][..], &Report::new(&plan.report).numbers()].concat(),
+        Ok(plan) => [&[0][..], &numbers(&report(&plan.report))].concat(),
         Err(n) => vec![*n as u64],
     };
     let of = |f: fn(&Plan) -> Vec<u64>| plan.as_ref().map_or(Vec::new(), f);
