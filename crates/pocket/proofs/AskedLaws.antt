@@ -10,12 +10,13 @@ use lib.Ieee.{Float}
 use borrow.Author.Tests.{leb-true, le-leb, lt-leb}
 use Rattle.loops.proofs.Cases.{both}
 use Rattle.distance.specs.Least.{MapSides}
+use Rattle.geom.specs.declared.vec2.Vec2.{Vec2}
 use Rattle.raster.specs.Grid.{Sides, Over}
 use Rattle.raster.specs.Contact.{samplesOf, Rim}
 use Rattle.raster.specs.declared.grid.Grid.{Grid}
 use Rattle.raster.proofs.GridLaws.{few-cells}
-use Rattle.pocket.specs.Ranges.{sidesFit}
-use Rattle.pocket.specs.Refusals.{ask, sizeRefusal, mapRefusal}
+use Rattle.pocket.specs.Ranges.{pointFit, gridFit, sidesFit}
+use Rattle.pocket.specs.Refusals.{ask, sizeRefusal, mapRefusal, cellRefusal}
 
 pub both-are : {a a′ b b′ : Bool} → a ≡ a′ → b ≡ b′ → a && b ≡ a′ && b′
 both-are p q = λ t. p t && q t
@@ -54,6 +55,13 @@ pub sides-are : (g : Grid) → sidesFit (g .nx) (g .ny) ≡ true → Sides g
 sides-are g h =
     let s = map-sides (g .nx) (g .ny) h in
     record { wide = s .column; high = s .row; columns = s .wide; rows = s .high; cells = sides-few (g .nx) (g .ny) h }
+
+-- a grid that has no no
+pub cell-none : (g : Grid) (p : Vec2) → cellRefusal g p ≡ 0 → Sides g
+unfolding cellRefusal
+cell-none g p e =
+    let a = ask-none 12 (gridFit g && pointFit p) (ask 14 (sidesFit (g .nx) (g .ny)) 0) (omega arith) e in
+    sides-are g (ask-none 14 (sidesFit (g .nx) (g .ny)) 0 (omega arith) (a .1) .0)
 
 -- ---- a map
 

@@ -3,7 +3,7 @@ use mathlib.Core.Path.{_≡_, refl, sym, ap, _∙_, subst}
 use mathlib.Core.Bool.{Bool, true, false, cond, not, _&&_, _||_}
 use mathlib.Core.List.{List}
 use mathlib.Core.Logic.{_⊎_, inl, inr, ⊎-elim}
-use Prim.Native.Nat.{ℕ, _+_, _*_, _%_, _^_, _≤_, _<_}
+use Prim.Native.Nat.{ℕ, _+_, _*_, _%_, _^_, _≤_, _<_, min}
 use native.Mathlib.Omega.{arith}
 use lib.ListN.{getD}
 use native.Mathlib.Nat.{mul-le-mul-right, mul-add-mod-self-right, mod-eq-of-lt}
@@ -24,6 +24,21 @@ use Rattle.raster.specs.declared.grid.Found.{Found}
 use Rattle.raster.specs.declared.grid.Found.the-variants.{Nothing, At}
 
 -- ---- floats that an index comes from
+
+-- a cast to u32 is that to u64, up to u32's end
+u32-cut : (x : Float) → toUnsigned 32 x ≡ min (toUnsigned 64 x) 4294967295
+unfolding toUnsigned
+u32-cut nan = refl
+u32-cut (inf true) = refl
+u32-cut (inf false) = refl
+u32-cut (fin true m e) = refl
+u32-cut (fin false m e) = omega arith
+
+pub low-index : (x : Float) (i n : ℕ) → n ≤ 4096 → i ≡ toUnsigned 32 x → i < n → i ≡ toUnsigned 64 x
+low-index x i n b e h = let c = e ∙ u32-cut x in omega arith
+
+pub high-index : (x : Float) (i n : ℕ) → i ≡ toUnsigned 32 x → n ≤ i → n ≤ toUnsigned 64 x
+high-index x i n e h = let c = e ∙ u32-cut x in omega arith
 
 below-zero : (x : Float) → le f0 x ≡ false → (lt x f0 ≡ true) ⊎ (isFinite x ≡ false)
 unfolding isFinite isNan ofBits le lt eq

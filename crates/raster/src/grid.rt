@@ -1,6 +1,6 @@
 // A raster's cells: their numbers and centres, and the cell at a point.
 ghost use mathlib.Core.Path.{_≡_};
-ghost use Prim.Native.Nat.{_<_, _%_, _/_, _^_};
+ghost use Prim.Native.Nat.{_≤_, _<_, _%_, _/_, _^_};
 ghost use lib.ListN.{length, getD};
 ghost use Rattle.raster.specs.Grid.{Sides, Over, refusalOf, spansOf, fitOf, reachOf, gridOf, sizedOf, newGrid, numbered, centerOf, cellOf, stockAt};
 use geom::vec2::Vec2;
@@ -164,17 +164,19 @@ pub fn center(g: Grid, i: usize, j: usize) -> Vec2
     })
 }
 
-// The tests turn NaN back, and an infinity's column is beyond every grid's.
+// The tests turn NaN back, and an infinity's column is beyond every grid's. A column that is on a grid has a u32.
 pub fn cell_of(g: Grid, p: Vec2) -> Found
+    requires { ⌜ g .nx ≤ 4096 ⌝ }
+    requires { ⌜ g .ny ≤ 4096 ⌝ }
     ensures { λ f. ⌜ f ≡ cellOf g p ⌝ }
 {
     let fx = (p.x - g.origin.x) / g.cell;
     let fy = (p.y - g.origin.y) / g.cell;
     if fx >= 0.0 {
         if fy >= 0.0 {
-            let i = numbers::cast::sat_u64(fx) as usize;
+            let i = numbers::cast::sat_u32(fx) as usize;
             if i < g.nx {
-                let j = numbers::cast::sat_u64(fy) as usize;
+                let j = numbers::cast::sat_u32(fy) as usize;
                 if j < g.ny {
                     return Found::At(i, j);
                 }

@@ -22,7 +22,7 @@ returns : tie.Need-returns
 returns c = let s = c .before .before .before .before .before .before .before .before .before .before .before .before .before in let k = c .before .before .keep .ensures in link-straight _ _ _ _ (s .args .allowed .now) _ (s .pre .0) (s .args .u .now) (s .pre .1 .1) _ _ _ (c .before .before .before .before .before .clear .ensures) (c .before .before .before .before .if1 .taken) _ (k .0) (k .1)
 
 cell-of-requires : tie.Need-cell-of-requires
-cell-of-requires c κs = search needs
+cell-of-requires c κs = let s = c .before .before .before .before .before .before .before .before .before .before .pre .0 .over .sides in (s .columns, s .rows)
 
 enum-known-x : tie.Need-enum-known-x
 enum-known-x c = search needs
@@ -37,7 +37,7 @@ returns-2 : tie.Need-returns-2
 returns-2 c = let s = c .before .before .before .before .before .before .before .before .before .before .before .before .before in link-no-from _ _ _ _ (s .args .allowed .now) _ (s .pre .0) (s .args .u .now) (s .pre .1 .1) _ _ _ (c .before .before .before .before .before .clear .ensures) (c .before .before .before .before .if1 .left) _ (c .before .before .cell-of .ensures) (c .enum-told .given .1)
 
 cell-of-requires-2 : tie.Need-cell-of-requires-2
-cell-of-requires-2 c κs = search needs
+cell-of-requires-2 c κs = let s = c .before .before .before .before .before .before .before .before .before .before .before .before .before .before .pre .0 .over .sides in (s .columns, s .rows)
 
 enum-known-z : tie.Need-enum-known-z
 enum-known-z c = search needs

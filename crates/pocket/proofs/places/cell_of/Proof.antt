@@ -3,6 +3,7 @@ use mathlib.Core.Path.{sym, ap, _∙_}
 use borrow.Author.Needs.{needs}
 use Rattle.pocket.specs.declared.answers.Cell.the-variants.{Refused}
 use Rattle.pocket.specs.Leaves.{cellAnswer, cellAtOf}
+use Rattle.pocket.proofs.AskedLaws.{cell-none}
 use Rattle.pocket.proofs.LeafLaws.{is-refused, is-answered}
 use Rattle.pocket.proofs.places.cell_of.Statement.{statement}
 use Rattle.pocket.proofs.places.cell_of.Tie as tie
@@ -15,7 +16,7 @@ unfolding cellAtOf
 returns c = is-refused Refused _ _ (c .before .cell-refusal .ensures) (c .if1 .taken) _
 
 cell-of-requires : tie.Need-cell-of-requires
-cell-of-requires c κs = search needs
+cell-of-requires c κs = let s = cell-none _ _ (sym (c .before .cell-refusal .ensures) ∙ c .if1 .left) in (s .columns, s .rows)
 
 enum-told : tie.Need-enum-told
 enum-told c = search needs

@@ -10,7 +10,7 @@ use Rattle.setup.proofs.place.wall_at.Statement.{statement}
 use Rattle.setup.proofs.place.wall_at.Tie as tie
 
 cell-of-requires : tie.Need-cell-of-requires
-cell-of-requires c κs = search needs
+cell-of-requires c κs = (c .before .pre .sides .columns, c .before .pre .sides .rows)
 
 enum-known-f : tie.Need-enum-known-f
 enum-known-f c = search needs
