@@ -94,12 +94,15 @@ static bool show(const lent *l, pocket_report r) {
     pocket_grid g = raster(CELL);
     pocket_point corner = {2, 2};
     pocket_count standing = pocket_standing(g.nx, g.ny, l->bytes, l->n);
-    pocket_number contact = pocket_contact(g, l->bytes, l->n, corner, 2.6, 360);
-    if (standing.refused || contact.refused) {
+    pocket_rim contact = pocket_contact(g, l->bytes, l->n, corner, 2.6, 360);
+    pocket_number angle = pocket_contact_angle(contact.hits, contact.samples);
+    if (standing.refused || contact.refused || angle.refused) {
         printf("the final map is refused: %u, %u\n", (unsigned)standing.refused, (unsigned)contact.refused);
         return false;
     }
-    printf("stock left: %zu cells; contact of a radius of 2.6 mm in a corner: %.4f\n", standing.count, contact.value);
+    printf("stock left: %zu cells\n", standing.count);
+    printf("contact of a radius of 2.6 mm in a corner: %zu of %zu rim points, %.4f\n", contact.hits, contact.samples,
+           angle.value);
     return standing.count == r.standing_cells;
 }
 

@@ -91,7 +91,7 @@ typedef struct {
  * before does not matter. rows and triples are as long as the caller likes: three numbers each.
  *
  * A row is kind, first triple, count. Kinds: 1 helix (centre, radius), 2 plunge (point, 0), 3 link (point, 0),
- * 4 cut (point, contact in radians; the first is 0, unmeasured).
+ * 4 cut (point, angle of contact in radians; the first is 0, unmeasured).
  *
  * After 1 to 15 nothing is changed. After 16 to 18 all that is lent is zero. Else the first N bytes are the final
  * stock map (1 stock, 0 none), rows and triples begin with the list, and all else that is lent is zero. */
@@ -124,6 +124,12 @@ typedef struct {
     float value;
 } pocket_single;
 
+/* Points of a tool's rim: how many are over stock, of how many sampled. */
+typedef struct {
+    uint32_t refused;
+    size_t hits, samples;
+} pocket_rim;
+
 typedef struct {
     uint32_t refused;
     bool found;
@@ -151,9 +157,13 @@ pocket_count pocket_count_disk(pocket_grid grid, const uint8_t *map, size_t map_
                                double radius);
 pocket_count pocket_standing(size_t nx, size_t ny, const uint8_t *map, size_t map_len);
 
-/* The angle of a tool's rim over stock, by samples of the rim: at least 8; above 4,096 is 12. */
-pocket_number pocket_contact(pocket_grid grid, const uint8_t *map, size_t map_len, pocket_point center, double radius,
-                             size_t samples);
+/* How many points of a tool's rim are over stock, by samples of the rim: at least 8; above 4,096 is 12. */
+pocket_rim pocket_contact(pocket_grid grid, const uint8_t *map, size_t map_len, pocket_point center, double radius,
+                          size_t samples);
+
+/* The angle that so many hits of so many samples stand for, TAU where all are hit; every contact that is not refused
+ * has one. 12: fewer than 8 or above 4,096 samples, more hits than those. */
+pocket_number pocket_contact_angle(size_t hits, size_t samples);
 
 /* The cell that holds a point; `found` is false off the grid. */
 pocket_cell pocket_cell_of(pocket_grid grid, pocket_point point);

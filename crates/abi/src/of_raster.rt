@@ -9,7 +9,7 @@ ghost use Rattle.raster.specs.Grid.{Over, newGrid, centerOf, cellOf, stockAt};
 ghost use Rattle.raster.specs.Disk.{diskRow};
 ghost use Rattle.raster.specs.Stock.{cl, clearDisk, countDisk, intersection};
 ghost use Rattle.raster.specs.Log.{st, Ready, Logged, clearAfter, undone, redone};
-ghost use Rattle.raster.specs.Contact.{samplesOf, engagementOf, Rim, rimmed};
+ghost use Rattle.raster.specs.Contact.{samplesOf, rimContact, angleOf, Rim, rimmed};
 ghost use Rattle.raster.specs.Fill.{fillRegion};
 ghost use Rattle.geom.specs.Region.{Held, vertexCount};
 ghost use Rattle.abi.specs.Geom.{region, put2};
@@ -291,7 +291,7 @@ pub extern "C" fn raster_fill_rim(rim: &mut [f64], n: usize)
     raster::contact::fill_rim(rim, n);
 }
 
-// The table of directions is filled first.
+// The angle of a contact. The table of directions is filled first.
 #[no_mangle]
 pub extern "C" fn raster_engagement(
     ox: f64,
@@ -308,7 +308,7 @@ pub extern "C" fn raster_engagement(
 ) -> f64
     requires { ⌜ Over (grid ox oy cell nx ny) (length (now map)) ⌝ }
     requires { ⌜ 2 * samplesOf samples ≤ length (now rim) ⌝ }
-    ensures { λ a. ⌜ a ≡ engagementOf (grid ox oy cell nx ny) (now (map .entry)) (v2 x y) r samples ⌝ }
+    ensures { λ a. ⌜ a ≡ angleOf (rimContact (grid ox oy cell nx ny) (now (map .entry)) (v2 x y) r samples) ⌝ }
 {
     let origin = Vec2 { x: ox, y: oy };
     let g = Grid {
@@ -318,7 +318,8 @@ pub extern "C" fn raster_engagement(
         ny,
     };
     raster::contact::fill_rim(rim, raster::contact::samples_of(samples));
-    raster::contact::engagement(g, map, Vec2 { x, y }, r, rim, samples)
+    let t = raster::contact::rim_contact(g, map, Vec2 { x, y }, r, rim, samples);
+    raster::contact::angle_of(t)
 }
 
 #[no_mangle]

@@ -21,7 +21,7 @@ refusalOf triples rows (n ∷ ns) = cond (ltb triples n) 16 (cond (eqb rows 0) 1
 
 -- planned_max = planned_max.max(e), point by point
 abbrev pub greater : Point → Float → Float
-greater p so = maxOf so (p .contact)
+greater p so = maxOf so (p .angle)
 
 unfoldable pub greatestOf : List Point → Float → Float
 greatestOf ps so = over greater ps so

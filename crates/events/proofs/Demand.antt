@@ -11,6 +11,7 @@ use lib.Ieee.{Float, binary64, add, lt}
 use Rattle.loops.specs.Cells.{ones}
 use Rattle.floats.proofs.OrderLaws.{le-lt}
 use Rattle.geom.specs.declared.vec2.Vec2.{Vec2}
+use Rattle.raster.specs.Contact.{angleOf}
 use Rattle.raster.specs.Stock.{clearDisk}
 use Rattle.raster.specs.Log.{Stock, st, undone, redone}
 use Rattle.raster.proofs.LogLaws.{kept-none, st-eq, undone-long}
@@ -40,9 +41,9 @@ module _ (j : Job) where
   point-good : Below → (m n : List ℕ) (q : Point) → m ≡ n → PointChecked j m q → PointGood j n q
   point-good f m n q e h = record {
     allowed = h .allowed;
-    measured = h .measured ∙ ap (λ (x : List ℕ). j .contact x (q .at)) e;
+    measured = h .measured ∙ ap (λ (x : List ℕ). angleOf (j .contact x (q .at))) e;
     guarded = h .guarded;
-    limited = le-lt (q .contact) (j .guard) (j .limit) (h .guarded) f;
+    limited = le-lt (q .angle) (j .guard) (j .limit) (h .guarded) f;
   }
 
   later-good : Below → (s : Stock) (m : List ℕ) (p : Vec2) (ps : List Point) → s .cells ≡ m → LaterChecked j s p ps → LaterGood j m p ps

@@ -7,7 +7,7 @@ use mathlib.Core.Option.{Option, some}
 use Prim.Native.Nat.{ℕ}
 use lib.ListN.{length, replicate}
 use lib.Dec.{eqb, lit≤}
-use lib.Ieee.{binary64, ofBits, ofInt, toBits, toUnsigned, round, add, sub, mul, div, lt, le, eq, neg, isNan}
+use lib.Ieee.{Float, binary64, ofBits, ofInt, toBits, toUnsigned, round, add, sub, mul, div, lt, le, eq, neg, isNan}
 use Rattle.loops.specs.Loop.{turns, loop, turn, any}
 use Rattle.loops.specs.Cells.{ones}
 use Rattle.numbers.specs.Order.{maxOf, isFinite}
@@ -16,6 +16,7 @@ use Rattle.numbers.specs.Root.{rootOf}
 use Rattle.numbers.specs.Small.{f1, f2}
 use Rattle.geom.specs.Vec.{v2, f0, sum}
 use Rattle.geom.specs.declared.vec2.Vec2.{Vec2}
+use Rattle.raster.specs.Contact.{angleOf}
 use Rattle.raster.specs.Disk.{rowY, cellAt, firstFrom, colsOf, diskRow, lastRow, rowsOf, leftOf, rightOf, less, crescentRow}
 use Rattle.raster.specs.Sweep.{overSpan, diskAt, overDisk, crescentAt, overCrescent}
 use Rattle.raster.specs.Stock.{dropCell, clearDisk}
@@ -34,6 +35,10 @@ a = v2 (ofBits binary64 0x3ff8_0000_0000_0000) (ofBits binary64 0x4004_0000_0000
 abbrev b : Vec2
 b = v2 (ofBits binary64 0x4004_0000_0000_0000) (ofBits binary64 0x4004_0000_0000_0000)
 
+-- TAU / 4, the angle of 2 hits of 8
+abbrev quarter : Float
+quarter = ofBits binary64 0x3ff9_21fb_5444_2d18
+
 -- the place of a helix: the first is too narrow
 abbrev spot : List ℕ → Option Spot
 spot gone = some (record { centre = a; widest = cond (eqb (ones gone) 0) (neg f1) f0 })
@@ -49,13 +54,13 @@ job = record {
   keepDown = true;
   allowed = λ p. true;
   free = λ m p. true;
-  contact = λ m p. f0;
+  contact = λ m p. record { hits = 2; samples = 8 };
   linkClear = λ m p q. lt (q .x) f2;
   entry = record { place = λ m gone. spot gone; abandon = λ m gone. m; least = f0 };
 }
 
 abbrev pub points : List Point
-points = record { at = a; contact = f0 } ∷ record { at = b; contact = f0 } ∷ []
+points = record { at = a; angle = f0 } ∷ record { at = b; angle = quarter } ∷ []
 
 abbrev pub events : List Event
 events = givenUp a ∷ entered a f0 ∷ tried points 3 ∷ withdrawn ∷ tried points 3 ∷ noWay b ∷ plunged b ∷ linked a ∷ kept ∷ []
@@ -67,7 +72,7 @@ fit = record { guard = refl; small = lit≤ tt }
 pub legal : Legal job events
 unfolding ofBits toBits round rootOf ofInt toUnsigned neg add sub mul div lt le eq isNan turns loop turn any ones floorOf ceilOf maxOf isFinite sum rowY cellAt
     firstFrom colsOf diskRow lastRow rowsOf leftOf rightOf less crescentRow overSpan diskAt overDisk crescentAt overCrescent dropCell clearDisk clearCell
-    clearAfter undone redone passes helixEnd rimBlocked shrink shrunk radiusOf begin cutsFrom cutsOf step
+    clearAfter undone redone passes angleOf helixEnd rimBlocked shrink shrunk radiusOf begin cutsFrom cutsOf step
 legal = (
   record { idle = refl; widest = neg f1; found = refl; radius = refl },
   (
@@ -92,7 +97,7 @@ legal = (
               record { allowed = refl; free = refl; unlinked = denied refl },
               (
                 record { from = b; here = refl; clear = refl },
-                (record { first = record { at = a; contact = f0 }; rest = record { at = b; contact = f0 } ∷ []; on = refl; arrived = refl }, tt),
+                (record { first = record { at = a; angle = f0 }; rest = record { at = b; angle = quarter } ∷ []; on = refl; arrived = refl }, tt),
               ),
             ),
           ),

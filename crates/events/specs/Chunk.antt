@@ -5,12 +5,13 @@ use mathlib.Core.List.{List}
 use mathlib.Core.Option.{Option}
 use lib.Ieee.{Float}
 use Rattle.geom.specs.declared.vec2.Vec2.{Vec2}
+use Rattle.raster.specs.declared.contact.Contact.{Contact}
 use Rattle.raster.specs.declared.grid.Grid.{Grid}
 
--- a point of a cut with the contact listed for it: 0 for the first point, which is not measured
+-- a point of a cut with the angle of contact that is listed for it: 0 for the first point, which is not measured
 pub record Point : Type 0 where
   pub at : Vec2
-  pub contact : Float
+  pub angle : Float
 
 pub data Chunk : Type 0 where
   helix : Vec2 → Float → Chunk  -- centre, radius of the tool centre's path
@@ -39,6 +40,6 @@ pub record Job : Type 0 where
   pub keepDown : Bool  -- the tool is kept down between passes where there is a way
   pub allowed : Vec2 → Bool
   pub free : List ℕ → Vec2 → Bool  -- no stock in the tool's disk
-  pub contact : List ℕ → Vec2 → Float  -- sampled at the widened radius
+  pub contact : List ℕ → Vec2 → Contact  -- counted at the widened radius
   pub linkClear : List ℕ → Vec2 → Vec2 → Bool  -- the samples of a straight feed
   pub entry : Entry

@@ -7,6 +7,7 @@ use mathlib.Core.Option.{Option, none, some}
 use lib.ListN.{length, replicate}
 use lib.Ieee.{Float, binary64, add, le, lt}
 use Rattle.geom.specs.declared.vec2.Vec2.{Vec2}
+use Rattle.raster.specs.Contact.{angleOf}
 use Rattle.raster.specs.Stock.{clearDisk}
 use Rattle.raster.specs.Log.{Stock, st, clearAfter, undone, redone, Cut, passes}
 use Rattle.events.specs.Chunk.{Point, Chunk, helix, plunge, link, cut, Job}
@@ -107,8 +108,8 @@ after j es = steps j (begin j) es
 -- `PointGood` without the limit, which the guard is below
 pub record PointChecked (j : Job) (m : List ℕ) (q : Point) : Type 0 where
   pub allowed : j .allowed (q .at) ≡ true
-  pub measured : q .contact ≡ j .contact m (q .at)
-  pub guarded : le (q .contact) (j .guard) ≡ true
+  pub measured : q .angle ≡ angleOf (j .contact m (q .at))
+  pub guarded : le (q .angle) (j .guard) ≡ true
 
 -- each later point was checked on the map as the points before it left it
 abbrev pub LaterChecked : Job → Stock → Vec2 → List Point → Type 0

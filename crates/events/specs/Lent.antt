@@ -27,7 +27,7 @@ abbrev pub tripleAt : Vec2 → Float → Triple
 tripleAt p v = record { x = p .x; y = p .y; value = v }
 
 abbrev pub pointTriple : Point → Triple
-pointTriple p = tripleAt (p .at) (p .contact)
+pointTriple p = tripleAt (p .at) (p .angle)
 
 -- document 01's numbers of the kinds
 abbrev pub kindOf : Chunk → ℕ
@@ -82,7 +82,7 @@ abbrev pub place : Triple → Vec2
 place t = v2 (t .x) (t .y)
 
 abbrev pub pointOf : Triple → Point
-pointOf t = record { at = place t; contact = t .value }
+pointOf t = record { at = place t; angle = t .value }
 
 -- a kind with one triple
 abbrev pub single : (Triple → Chunk) → List Triple → Option Chunk

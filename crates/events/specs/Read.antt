@@ -55,7 +55,7 @@ listFrom rows ts k (suc n) = push (meant ts (readAt rows ts k)) (listFrom rows t
 -- ---- a pass whose triples lie in a slice, from triple `first` on, cleared as a loop does it
 
 abbrev pub pointAt : List Float → ℕ → Point
-pointAt ts n = record { at = spotAt ts n; contact = valueAt ts n }
+pointAt ts n = record { at = spotAt ts n; angle = valueAt ts n }
 
 -- the points of n triples from number `first` on
 abbrev pub pointsFrom : List Float → ℕ → ℕ → List Point

@@ -11,6 +11,7 @@ use Rattle.geom.specs.declared.vec2.Vec2.{Vec2}
 use Rattle.numbers.specs.Cast.{float}
 use Rattle.raster.specs.Sweep.{overDisk, overCrescent}
 use Rattle.raster.specs.Stock.{wipeCell}
+use Rattle.raster.specs.Contact.{angleOf}
 use Rattle.numbers.specs.Circle.{tau}
 use Rattle.raster.specs.declared.grid.Grid.{Grid}
 use Rattle.events.specs.Chunk.{Point, Chunk, helix, plunge, link, cut, Job}
@@ -94,14 +95,14 @@ replay j rows = replayFrom j (origin j) rows
 pub record BeginsGood (j : Job) (m : List ℕ) (p : Point) : Type 0 where
   pub allowed : j .allowed (p .at) ≡ true
   pub free : j .free m (p .at) ≡ true
-  pub unmeasured : p .contact ≡ f0
+  pub unmeasured : p .angle ≡ f0
 
--- a later point, on the map just before its own crescent
+-- a later point: it lists the angle of the contact that is counted on the map just before its own crescent
 pub record PointGood (j : Job) (m : List ℕ) (q : Point) : Type 0 where
   pub allowed : j .allowed (q .at) ≡ true
-  pub measured : q .contact ≡ j .contact m (q .at)
-  pub guarded : le (q .contact) (j .guard) ≡ true
-  pub limited : lt (q .contact) (j .limit) ≡ true
+  pub measured : q .angle ≡ angleOf (j .contact m (q .at))
+  pub guarded : le (q .angle) (j .guard) ≡ true
+  pub limited : lt (q .angle) (j .limit) ≡ true
 
 abbrev pub LaterGood : Job → List ℕ → Vec2 → List Point → Type 0
 LaterGood j m p [] = Unit

@@ -13,7 +13,9 @@ use Rattle.geom.specs.declared.vec2.Vec2.{Vec2}
 use Rattle.distance.specs.Limits.{scaledOf, passesOf}
 use Rattle.distance.specs.Rooted.{rootedOf}
 use Rattle.distance.specs.declared.limits.Threshold.{Threshold}
+use Rattle.raster.specs.Contact.{angleOf}
 use Rattle.raster.specs.Grid.{centerOf}
+use Rattle.raster.specs.declared.contact.Contact.{Contact}
 use Rattle.numbers.specs.Circle.{tau}
 use Rattle.setup.specs.Place.{contactAt}
 use Rattle.setup.specs.declared.Setup.{Setup}
@@ -73,9 +75,9 @@ module _ (g : Gauge) (h : Gauged g) (map stock : List ℕ) (i j : ℕ) (b : Bool
     unfolding valueAt valueOf
     value-deep d = rw (← is-far, e, ← is-deep, d, h .full) refl
 
-    pub value-sampled : c ≡ false → (p : Vec2) (a v : Float) → p ≡ centerOf (g .setup .grid) i j → a ≡ contactAt (g .setup) map p (g .setup .r) → v ≡ narrowOf a → value v true ≡ valueAt (g .setup) map stock i j
+    pub value-sampled : c ≡ false → (p : Vec2) (t : Contact) (a v : Float) → p ≡ centerOf (g .setup .grid) i j → t ≡ contactAt (g .setup) map p (g .setup .r) → a ≡ angleOf t → v ≡ narrowOf a → value v true ≡ valueAt (g .setup) map stock i j
     unfolding valueAt valueOf
-    value-sampled d p a v P A E = rw (← is-far, e, ← is-deep, d, ← P, ← A, ← E) refl
+    value-sampled d p t a v P T A E = rw (← is-far, e, ← is-deep, d, ← P, ← T, ← A, ← E) refl
 
 -- ---- the cell
 

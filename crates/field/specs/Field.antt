@@ -12,6 +12,7 @@ use Rattle.numbers.specs.Narrow.{narrowOf}
 use Rattle.numbers.specs.Small.{f2, f3}
 use Rattle.distance.specs.Rooted.{rootedOf}
 use Rattle.distance.specs.Nearest.{squaresOf}
+use Rattle.raster.specs.Contact.{angleOf}
 use Rattle.raster.specs.Grid.{centerOf}
 use Rattle.numbers.specs.Circle.{tau}
 use Rattle.setup.specs.Place.{contactAt, biteOf}
@@ -53,7 +54,7 @@ unfoldable pub valueOf : Setup → List ℕ → Float → ℕ → ℕ → Value
 valueOf s map d i j =
     cond (lt (highOf s) d) (value s0 false)
     (cond (lt d (lowOf s)) (value (narrowOf tau) false)
-    (value (narrowOf (contactAt s map (centerOf (s .grid) i j) (s .r))) true))
+    (value (narrowOf (angleOf (contactAt s map (centerOf (s .grid) i j) (s .r)))) true))
 
 unfoldable pub valueAt : Setup → List ℕ → List ℕ → ℕ → ℕ → Value
 valueAt s map stock i j = valueOf s map (mul binary64 (rootedOf (getD stock (number (s .grid .nx) i j) 0)) (s .grid .cell)) i j

@@ -127,9 +127,9 @@ pub fn value_at(g: Gauge, map: &[u8], stock: &[u32], rim: &[f64], i: usize, j: u
             sampled: false,
         };
     }
-    let e = setup::place::contact(s, map, rim, raster::grid::center(grid, i, j), s.r);
+    let t = setup::place::contact(s, map, rim, raster::grid::center(grid, i, j), s.r);
     Value {
-        v: numbers::narrow::narrow(e),
+        v: numbers::narrow::narrow(raster::contact::angle_of(t)),
         sampled: true,
     }
 }

@@ -12,7 +12,9 @@ use Rattle.numbers.specs.Small.{f1}
 use Rattle.geom.specs.Vec.{f0, distanceOf, lerpOf}
 use Rattle.geom.specs.declared.vec2.Vec2.{Vec2}
 use Rattle.numbers.specs.Cast.{float}
+use Rattle.raster.specs.Contact.{angleOf}
 use Rattle.raster.specs.Stock.{countDisk}
+use Rattle.raster.specs.declared.contact.Contact.{Contact}
 use Rattle.setup.specs.Place.{allowedAt, contactAt}
 use Rattle.setup.specs.declared.Setup.{Setup}
 use Rattle.links.specs.Straight.{stepsOf, pointOf, clearAt, sampleClear, sampleBlocked, samplesClear, linkClear}
@@ -27,9 +29,9 @@ point-is a b n k x y p X Y P = rw (← X, ← Y) P
 
 module _ (s : Setup) (wall vs : List Float) (lens m : List ℕ) (r : Float) where
   module _ (q : Vec2) (t : Bool) (T : t ≡ allowedAt s wall vs lens q) where
-    pub clear-there : t ≡ true → (c : Float) → c ≡ contactAt s m q r → eq c f0 ≡ clearAt s wall vs lens m r q
+    pub clear-there : t ≡ true → (c : Contact) (a : Float) → c ≡ contactAt s m q r → a ≡ angleOf c → eq a f0 ≡ clearAt s wall vs lens m r q
     unfolding clearAt
-    clear-there e c C = rw (← T, e, ← C)
+    clear-there e c a C A = rw (← T, e, ← C, ← A)
 
     pub clear-not : t ≡ false → false ≡ clearAt s wall vs lens m r q
     unfolding clearAt

@@ -11,6 +11,7 @@ use Rattle.numbers.specs.Small.{f1}
 use Rattle.geom.specs.Vec.{f0, distanceOf, lerpOf}
 use Rattle.geom.specs.declared.vec2.Vec2.{Vec2}
 use Rattle.numbers.specs.Cast.{float}
+use Rattle.raster.specs.Contact.{angleOf}
 use Rattle.raster.specs.Stock.{countDisk}
 use Rattle.setup.specs.Place.{allowedAt, contactAt}
 use Rattle.setup.specs.declared.Setup.{Setup}
@@ -25,7 +26,7 @@ pointOf a b n k = lerpOf a b (div binary64 (float k) (float n))
 
 -- the tool may be at q, and at radius r it has no contact there
 unfoldable pub clearAt : Setup → List Float → List Float → List ℕ → List ℕ → Float → Vec2 → Bool
-clearAt s wall vs lens m r q = allowedAt s wall vs lens q && eq (contactAt s m q r) f0
+clearAt s wall vs lens m r q = allowedAt s wall vs lens q && eq (angleOf (contactAt s m q r)) f0
 
 unfoldable pub sampleClear : Setup → List Float → List Float → List ℕ → List ℕ → Float → Vec2 → Vec2 → ℕ → ℕ → Bool
 sampleClear s wall vs lens m r a b n k = clearAt s wall vs lens m r (pointOf a b n k)

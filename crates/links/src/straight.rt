@@ -8,6 +8,7 @@ ghost use Rattle.setup.specs.Place.{Walls};
 ghost use Rattle.links.specs.Straight.{stepsOf, pointOf, clearAt, samplesClear, linkClear};
 use geom::vec2::Vec2;
 use numbers::cast::float_of;
+use raster::contact::angle_of;
 use setup::Setup;
 
 // A sample for each cell of the way, at least one.
@@ -42,7 +43,7 @@ fn clear_at(
     ensures { λ b. ⌜ b ≡ clearAt s (now (wall .entry)) (now (vs .entry)) (now (lens .entry)) (now (map .entry)) r q ⌝ }
 {
     if setup::place::allowed_at(s, wall, vs, lens, q) {
-        return setup::place::contact(s, map, rim, q, r) == 0.0;
+        return angle_of(setup::place::contact(s, map, rim, q, r)) == 0.0;
     }
     false
 }

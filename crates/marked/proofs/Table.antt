@@ -15,7 +15,7 @@ use Rattle.raster.specs.Disk.{rowY, cellAt, firstFrom, colsOf, diskRow, lastRow
 use Rattle.raster.specs.Sweep.{overSpan, diskAt, overDisk, crescentAt, overCrescent}
 use Rattle.raster.specs.Stock.{dropCell, clearDisk}
 use Rattle.raster.specs.Log.{clearCell, clearAfter, undone}
-use Rattle.raster.specs.Contact.{samplesOf, directionAt, rimAt, hitAt, hitsOf, angleOf, engagementOf}
+use Rattle.raster.specs.Contact.{samplesOf, directionAt, rimAt, hitAt, hitsOf, rimContact, angleOf}
 use Rattle.raster.specs.Sort.{precedes, swapped, sunk, sortedOf}
 use Rattle.raster.specs.Fill.{between, pairSpan, pairAt, fillPair, fillRow, rowCrossings, fillAt, fillRegion}
 use Rattle.distance.specs.Nearest.{nearestInRow, nearest, listed, squaresOf, transformOf}
@@ -28,13 +28,13 @@ unfolding ofBits toBits round narrowOf rootOf cosOf sinOf cosSeries sinSeries of
     floorOf ceilOf maxOf isFinite rankOf totalOf sum difference scaled fromAngle vertexOf straddlesOf crossingOf startOf crossed loopCrossings crossingsIn
     crossingsOf reachOf spansOf fitOf gridOf sizedOf newGrid onGrid cellOf stockAt rowY cellAt firstFrom colsOf diskRow lastRow rowsOf leftOf rightOf less crescentRow
     overSpan diskAt overDisk crescentAt overCrescent dropCell clearDisk clearCell clearAfter undone samplesOf directionAt rimAt hitAt hitsOf angleOf
-    engagementOf precedes swapped sunk sortedOf between pairSpan pairAt fillPair fillRow rowCrossings fillAt fillRegion nearestInRow nearest listed
+    rimContact precedes swapped sunk sortedOf between pairSpan pairAt fillPair fillRow rowCrossings fillAt fillRegion nearestInRow nearest listed
     squaresOf transformOf rootedOf distancesOf wantedOf
 table = record {
   numbers = record { cosine = refl; root = refl; narrow-even = refl; narrow-odd = refl };
   disks = record { once = refl; twice = refl };
   crescents = record { log = refl; standing = refl; undone-all = refl; to-itself = refl };
-  contacts = record { samples = refl; all = refl; none = refl };
+  contacts = record { samples = refl; all = refl; all-angle = refl; none = refl; none-angle = refl };
   cells = record { off = refl; first = refl };
   squares = record { sides = refl; set = refl };
   distances = record { mid = refl; none = refl };

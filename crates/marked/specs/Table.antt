@@ -17,7 +17,8 @@ use Rattle.geom.specs.declared.region.Region.{Region}
 use Rattle.raster.specs.Grid.{newGrid, cellOf}
 use Rattle.raster.specs.Stock.{clearDisk}
 use Rattle.raster.specs.Log.{Stock, st, clearAfter, undone}
-use Rattle.raster.specs.Contact.{samplesOf, engagementOf}
+use Rattle.raster.specs.Contact.{samplesOf, rimContact, angleOf}
+use Rattle.raster.specs.declared.contact.Contact.{Contact}
 use Rattle.raster.specs.Fill.{fillRegion}
 use Rattle.raster.specs.declared.grid.Grid.{Grid}
 use Rattle.raster.specs.declared.grid.Raster.the-variants.{Of}
@@ -74,11 +75,17 @@ pub record Crescents : Type 0 where
   -- from a point to itself: 0
   pub to-itself : clearAfter grid middle middle f1 (st full empty 0) .count ≡ 0
 
+-- so many points of a rim hit, of so many sampled
+abbrev pub points : ℕ → ℕ → Contact
+points hits samples = record { hits = hits; samples = samples }
+
 pub record Contacts : Type 0 where
-  -- 4 samples become 8; contact at (2.5, 2.5), radius 1: TAU; on an empty map 0
+  -- 4 samples become 8; contact at (2.5, 2.5), radius 1: 8 of 8, TAU; on an empty map 0 of 8, 0
   pub samples : samplesOf 4 ≡ 8
-  pub all : engagementOf grid full middle f1 4 ≡ tau
-  pub none : engagementOf grid empty middle f1 4 ≡ f0
+  pub all : rimContact grid full middle f1 4 ≡ points 8 8
+  pub all-angle : angleOf (rimContact grid full middle f1 4) ≡ tau
+  pub none : rimContact grid empty middle f1 4 ≡ points 0 8
+  pub none-angle : angleOf (rimContact grid empty middle f1 4) ≡ f0
 
 pub record Cells : Type 0 where
   -- (5, 2) has no cell; (0, 0) has (0, 0)

@@ -106,7 +106,7 @@ module _ (s : Setup) (allowed free : Vec2 → Bool) (pts : List Vec2) where
 -- a pass along it begins well, by the job's own judges
 pub blend-begins : (s : Setup) (wall vs : List Float) (lens start : List ℕ) (limit : Float) (entry : Entry) (m : List ℕ) (pts l : List Vec2)
     → blendOf s (allowedAt s wall vs lens) (freeAt s m) pts ≡ some l
-    → BeginsGood (jobAt s wall vs lens start limit entry) m (record { at = getD l 0 nowhere; contact = f0 })
+    → BeginsGood (jobAt s wall vs lens start limit entry) m (record { at = getD l 0 nowhere; angle = f0 })
 blend-begins s wall vs lens start limit entry m pts l e =
     let g = blend-good s (allowedAt s wall vs lens) (freeAt s m) pts l e in
     record { allowed = g .1; free = g .2; unmeasured = refl }

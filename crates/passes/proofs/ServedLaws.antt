@@ -1,4 +1,4 @@
--- Where a search finds a shift, the tool may be, and its contact is measured there and at most the guard. Assumes nothing.
+-- Where a search finds a shift, the tool may be, and the angle is that of the contact there and at most the guard. Assumes nothing.
 use mathlib.Core.Path.{_≡_, refl, subst}
 use mathlib.Core.Bool.{Bool, true}
 use mathlib.Core.List.{List}
@@ -12,6 +12,8 @@ use Rattle.numbers.specs.Order.{maxOf}
 use Rattle.numbers.specs.Small.{tiny}
 use Rattle.geom.specs.Vec.{f0}
 use Rattle.geom.specs.declared.vec2.Vec2.{Vec2}
+use Rattle.raster.specs.Contact.{angleOf}
+use Rattle.raster.specs.declared.contact.Contact.{Contact}
 use Rattle.setup.specs.Place.{contactAt}
 use Rattle.setup.specs.declared.Setup.{Setup}
 use Rattle.passes.specs.declared.shifts.Probe.{Probe}
@@ -24,16 +26,17 @@ use Rattle.passes.proofs.ShiftLaws.{probe-yes, probe-no}
 module _ (s : Setup) (allowed : Vec2 → Bool) (m : List ℕ) where
   abbrev pub Served : Shift → Type 0
   Served Nothing = Unit
-  Served (At q e x) = (allowed q ≡ true) × (e ≡ contactAt s m q (s .«r_guard»)) × (le e (s .guard) ≡ true)
+  Served (At q e x) = (allowed q ≡ true) × (e ≡ angleOf (contactAt s m q (s .«r_guard»))) × (le e (s .guard) ≡ true)
 
   try-served : (g left : Vec2) (sh limit : Float) (work : ℕ) → ((e : Float) → le e limit ≡ true → le e (s .guard) ≡ true) → Served (tryOf s allowed m g left sh limit work .found)
   unfolding tryOf judged
   try-served g left sh limit work h =
       let q : Vec2 = movedOf g left sh in
-      let c : Float = contactAt s m q (s .«r_guard») in
+      let c : Contact = contactAt s m q (s .«r_guard») in
+      let e : Float = angleOf c in
       by-cases (allowed q)
       (λ a. subst (λ (p : Probe). Served (judged s allowed m q sh limit work p .found)) (probe-yes s allowed m q (allowed q) refl a c refl)
-      (by-test Served (le c limit) (At q c sh) Nothing (λ t. (a, refl, h c t)) (λ t. tt)))
+      (by-test Served (le e limit) (At q e sh) Nothing (λ t. (a, refl, h e t)) (λ t. tt)))
       (λ a. subst (λ (p : Probe). Served (judged s allowed m q sh limit work p .found)) (probe-no s allowed m q (allowed q) refl a) tt)
 
   -- the loop goes on, or it is left with such a shift

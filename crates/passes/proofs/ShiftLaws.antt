@@ -9,10 +9,12 @@ use Rattle.numbers.specs.Order.{maxOf}
 use Rattle.numbers.specs.Small.{f4, tiny}
 use Rattle.geom.specs.Vec.{f0, sum, scaled}
 use Rattle.geom.specs.declared.vec2.Vec2.{Vec2}
+use Rattle.raster.specs.Contact.{angleOf}
+use Rattle.raster.specs.declared.contact.Contact.{Contact}
 use Rattle.setup.specs.Place.{contactAt, biteOf}
 use Rattle.setup.specs.declared.Setup.{Setup}
 use Rattle.passes.specs.declared.shifts.Probe.{Probe}
-use Rattle.passes.specs.declared.shifts.Probe.the-variants.{Contact, Barred}
+use Rattle.passes.specs.declared.shifts.Probe.the-variants.{Counted, Barred}
 use Rattle.passes.specs.declared.shifts.Shift.the-variants.{At, Nothing}
 use Rattle.passes.specs.declared.shifts.Search.{Search}
 use Rattle.passes.specs.Shifts.{maxShift, sr, satAdd, movedOf, sk, grown, sought, probeOf, judged, tryOf, easeOf, look, outward, orOutward, searchOf}
@@ -37,9 +39,9 @@ module _ (s : Setup) (allowed : Vec2 → Bool) (m : List ℕ) where
   -- ---- one probe
 
   module _ (q : Vec2) (a : Bool) (A : a ≡ allowed q) where
-    pub probe-yes : a ≡ true → (e : Float) → e ≡ contactAt s m q (s .«r_guard») → Contact e ≡ probeOf s allowed m q
+    pub probe-yes : a ≡ true → (c : Contact) → c ≡ contactAt s m q (s .«r_guard») → Counted c ≡ probeOf s allowed m q
     unfolding probeOf
-    probe-yes t e E = rw (← A, t, ← E)
+    probe-yes t c C = rw (← A, t, ← C)
 
     pub probe-no : a ≡ false → Barred ≡ probeOf s allowed m q
     unfolding probeOf
@@ -50,14 +52,14 @@ module _ (s : Setup) (allowed : Vec2 → Bool) (m : List ℕ) where
     unfolding tryOf judged
     try-barred h = rw (← Q, ← P, h)
 
-    module _ (e : Float) (w : ℕ) (h : p ≡ Contact e) (W : w ≡ satAdd work (s .samples)) where
+    module _ (t : Contact) (e : Float) (w : ℕ) (h : p ≡ Counted t) (W : w ≡ satAdd work (s .samples)) (E : e ≡ angleOf t) where
       pub try-taken : le e limit ≡ true → sr (At q e sh) w ≡ tryOf s allowed m g left sh limit work
       unfolding tryOf judged
-      try-taken c = rw (← Q, ← P, h, c, ← W)
+      try-taken c = rw (← Q, ← P, h, ← E, c, ← W)
 
       pub try-left : le e limit ≡ false → sr Nothing w ≡ tryOf s allowed m g left sh limit work
       unfolding tryOf judged
-      try-left c = rw (← Q, ← P, h, c, ← W)
+      try-left c = rw (← Q, ← P, h, ← E, c, ← W)
 
   -- ---- the search
 

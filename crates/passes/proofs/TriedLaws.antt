@@ -17,6 +17,7 @@ use Rattle.geom.specs.Vec.{v2, f0}
 use Rattle.geom.specs.declared.vec2.Vec2.{Vec2}
 use Rattle.raster.specs.Log.{Stock, st, Ready, clearAfter, passes}
 use Rattle.raster.proofs.RunLaws.{kept-passes}
+use Rattle.raster.specs.Contact.{angleOf}
 use Rattle.setup.specs.Place.{allowedAt, contactAt}
 use Rattle.setup.specs.declared.Setup.{Setup}
 use Rattle.events.specs.Chunk.{Point, Chunk, Entry, Job}
@@ -38,7 +39,7 @@ use Rattle.passes.proofs.KeepLaws.{keeps-legs}
 -- ---- triples that are put are read back, and no other changes
 
 abbrev pt : Vec2 → Float → Point
-pt q e = record { at = q; contact = e }
+pt q e = record { at = q; angle = e }
 
 point-eq : {a a′ b b′ c c′ : Float} → a ≡ a′ → b ≡ b′ → c ≡ c′ → pt (v2 a b) c ≡ pt (v2 a′ b′) c′
 point-eq p q r = λ i. pt (v2 (p i) (q i)) (r i)
@@ -125,7 +126,7 @@ module _ (s : Setup) (wall vs : List Float) (lens start : List ℕ) (limit : Flo
     good : PointChecked job (laterLogged job (first .at) (h .later) stock .cells) (pt q e)
     good = record {
       allowed = f .0;
-      measured = f .1 ∙ ap (contactAt s (p .cells) q) (M .wide) ∙ ap (λ (m : List ℕ). contactAt s m q (widened s)) same-cells;
+      measured = f .1 ∙ ap (λ (w : Float). angleOf (contactAt s (p .cells) q w)) (M .wide) ∙ ap (λ (m : List ℕ). angleOf (contactAt s m q (widened s))) same-cells;
       guarded = f .2;
     }
 

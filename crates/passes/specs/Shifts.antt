@@ -8,10 +8,11 @@ use Rattle.numbers.specs.Order.{maxOf}
 use Rattle.numbers.specs.Small.{f4, tiny}
 use Rattle.geom.specs.Vec.{f0, sum, scaled}
 use Rattle.geom.specs.declared.vec2.Vec2.{Vec2}
+use Rattle.raster.specs.Contact.{angleOf}
 use Rattle.setup.specs.Place.{contactAt, biteOf}
 use Rattle.setup.specs.declared.Setup.{Setup}
 use Rattle.passes.specs.declared.shifts.Probe.{Probe}
-use Rattle.passes.specs.declared.shifts.Probe.the-variants.{Contact, Barred}
+use Rattle.passes.specs.declared.shifts.Probe.the-variants.{Counted, Barred}
 use Rattle.passes.specs.declared.shifts.Shift.{Shift}
 use Rattle.passes.specs.declared.shifts.Shift.the-variants.{At, Nothing}
 use Rattle.passes.specs.declared.shifts.Search.{Search}
@@ -52,12 +53,12 @@ module _ (s : Setup) (allowed : Vec2 → Bool) (m : List ℕ) where
   -- ---- one probe
 
   unfoldable pub probeOf : Vec2 → Probe
-  probeOf q = cond (allowed q) (Contact (contactAt s m q (s .«r_guard»))) Barred
+  probeOf q = cond (allowed q) (Counted (contactAt s m q (s .«r_guard»))) Barred
 
-  -- a contact that was measured is work, whether it serves or not
+  -- a contact that was counted is work, whether its angle serves or not
   unfoldable pub judged : Vec2 → Float → Float → ℕ → Probe → Search
   judged q sh limit work Barred = sr Nothing work
-  judged q sh limit work (Contact e) = sr (cond (le e limit) (At q e sh) Nothing) (satAdd work (s .samples))
+  judged q sh limit work (Counted t) = sr (cond (le (angleOf t) limit) (At q (angleOf t) sh) Nothing) (satAdd work (s .samples))
 
   unfoldable pub tryOf : Vec2 → Vec2 → Float → Float → ℕ → Search
   tryOf g left sh limit work = judged (movedOf g left sh) sh limit work (probeOf (movedOf g left sh))

@@ -6,16 +6,18 @@ ghost use Rattle.raster.specs.Contact.{samplesOf, Rim};
 ghost use Rattle.setup.specs.Place.{Walls, allowedAt};
 ghost use Rattle.passes.specs.Shifts.{maxShift, satAdd, movedOf, probeOf, tryOf, easeOf, searchOf};
 use geom::vec2::Vec2;
+use raster::contact::Contact;
+use raster::contact::angle_of;
 use setup::Setup;
 use setup::place::bite_of;
 
 // Contact at a place, where the tool may be there.
 pub enum Probe {
-    Contact(f64),
+    Counted(Contact),
     Barred,
 }
 
-// A place with its contact and its shift.
+// A place with the angle of its contact, and its shift.
 pub enum Shift {
     At(Vec2, f64, f64),
     Nothing,
@@ -66,12 +68,12 @@ fn probe_at(
     ensures { λ p. ⌜ p ≡ probeOf s (allowedAt s (now (wall .entry)) (now (vs .entry)) (now (lens .entry))) (now (map .entry)) q ⌝ }
 {
     if setup::place::allowed_at(s, wall, vs, lens, q) {
-        return Probe::Contact(setup::place::contact(s, map, rim, q, s.r_guard));
+        return Probe::Counted(setup::place::contact(s, map, rim, q, s.r_guard));
     }
     Probe::Barred
 }
 
-// One probe at a shift, taken where its contact is at most the limit.
+// One probe at a shift, taken where the angle of its contact is at most the limit.
 fn try_shift(
     s: Setup,
     wall: &[f64],
@@ -97,8 +99,9 @@ fn try_shift(
             found: Shift::Nothing,
             work,
         },
-        Probe::Contact(e) => {
+        Probe::Counted(t) => {
             let w = sat_add(work, s.samples);
+            let e = angle_of(t);
             if e <= limit {
                 return Search {
                     found: Shift::At(q, e, sh),

@@ -1,6 +1,7 @@
 -- `KeptLaws`: what a crescent leaves of its log, for readers. The others are for the proofs of the functions.
 pub mod AskedLaws
 pub mod LeafLaws
+pub mod RimLaws
 pub mod CrescentLaws
 pub mod KeptLaws
 pub mod LoggedLaws

@@ -1,5 +1,6 @@
 -- The public leaves called alone: the answer, and what each lent slice then holds. A refusal leaves it as it was. Definitions only.
 use Prim.Native.Nat.{ℕ, _*_}
+use mathlib.Core.Path.{_≡_}
 use mathlib.Core.Bool.{cond, _&&_}
 use mathlib.Core.List.{List, _++_}
 use lib.ListN.{length, take, drop}
@@ -17,13 +18,13 @@ use Rattle.distance.specs.Rooted.{distanceTransform}
 use Rattle.raster.specs.Grid.{cellOf}
 use Rattle.raster.specs.Stock.{clearDisk, countDisk}
 use Rattle.raster.specs.Log.{st, clearAfter, undone, redone}
-use Rattle.raster.specs.Contact.{engagementOf}
+use Rattle.raster.specs.Contact.{rimContact, angleOf}
 use Rattle.raster.specs.Fill.{fillRegion}
 use Rattle.raster.specs.declared.grid.Grid.{Grid}
 use Rattle.raster.specs.declared.grid.Found.{Found}
 use Rattle.raster.specs.declared.grid.Found.the-variants as found
 use Rattle.passes.specs.Worth.{wantedOf}
-use Rattle.pocket.specs.Ranges.{cellFit, angleFit, rootFit}
+use Rattle.pocket.specs.Ranges.{contactFit, cellFit, angleFit, rootFit}
 use Rattle.pocket.specs.Refusals.{sizeRefusal, diskRefusal, contactRefusal, cellRefusal, crescentRefusal, logRefusal, fillRefusal, farRefusal}
 use Rattle.pocket.specs.declared.answers.Count.{Count}
 use Rattle.pocket.specs.declared.answers.Count.the-variants as count
@@ -31,6 +32,8 @@ use Rattle.pocket.specs.declared.answers.Number.{Number}
 use Rattle.pocket.specs.declared.answers.Number.the-variants as number
 use Rattle.pocket.specs.declared.answers.Single.{Single}
 use Rattle.pocket.specs.declared.answers.Single.the-variants as single
+use Rattle.pocket.specs.declared.answers.Rim.{Rim}
+use Rattle.pocket.specs.declared.answers.Rim.the-variants as rim
 use Rattle.pocket.specs.declared.answers.Cell.{Cell}
 use Rattle.pocket.specs.declared.answers.Cell.the-variants as cell
 use Rattle.pocket.specs.declared.answers.Done.{Done}
@@ -66,8 +69,18 @@ countDiskOf g c r m = unless (diskRefusal g c r (length m)) count.Refused (count
 unfoldable pub standingOf : ℕ → ℕ → List ℕ → Count
 standingOf nx ny m = unless (sizeRefusal nx ny (length m)) count.Refused (count.Of (ones (take (ny * nx) m)))
 
-unfoldable pub contactOf : Grid → List ℕ → Vec2 → Float → ℕ → Number
-contactOf g m c r samples = unless (contactRefusal g c r samples (length m)) number.Refused (number.Of (engagementOf g m c r samples))
+-- points of a rim hit, and sampled
+unfoldable pub contactOf : Grid → List ℕ → Vec2 → Float → ℕ → Rim
+contactOf g m c r samples = unless (contactRefusal g c r samples (length m)) rim.Refused (rim.Of (rimContact g m c r samples))
+
+-- the angle that they stand for
+unfoldable pub contactAngleOf : ℕ → ℕ → Number
+contactAngleOf hits samples = cond (contactFit hits samples) (number.Of (angleOf (record { hits = hits; samples = samples }))) (number.Refused 12)
+
+-- a contact that was counted has its angle
+abbrev pub Angled : Rim → Type 0
+Angled (rim.Refused n) = Unit
+Angled (rim.Of t) = contactAngleOf (t .hits) (t .samples) ≡ number.Of (angleOf t)
 
 -- ---- the log
 

@@ -60,6 +60,10 @@ rootFit x = isFinite x && le f0 x
 abbrev pub samplesFit : ℕ → Bool
 samplesFit n = leb n 4096
 
+-- a contact: 8 to 4,096 samples, and no more hits than those
+unfoldable pub contactFit : ℕ → ℕ → Bool
+contactFit hits samples = leb hits samples && (leb 8 samples && samplesFit samples)
+
 -- a grid's corner and cell; a disk
 unfoldable pub gridFit : Grid → Bool
 gridFit g = pointFit (g .origin) && cellFit (g .cell)

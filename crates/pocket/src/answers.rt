@@ -1,7 +1,8 @@
 // What a leaf answers, and the same as C has it: `refused` is 0 where there is an answer, and all else is 0 where
 // there is none.
 ghost use mathlib.Core.Path.{_≡_};
-ghost use Rattle.pocket.specs.Answers.{ofCount, ofNumber, ofSingle, ofCell, ofDone};
+ghost use Rattle.pocket.specs.Answers.{ofCount, ofNumber, ofSingle, ofRim, ofCell, ofDone};
+use raster::contact::Contact;
 
 pub enum Count {
     Refused(u32),
@@ -16,6 +17,12 @@ pub enum Number {
 pub enum Single {
     Refused(u32),
     Of(f32),
+}
+
+// Points of a tool's rim, hit and sampled.
+pub enum Rim {
+    Refused(u32),
+    Of(Contact),
 }
 
 // Column and row of a cell; nothing off the grid.
@@ -46,6 +53,13 @@ pub struct PocketNumber {
 pub struct PocketSingle {
     pub refused: u32,
     pub value: f32,
+}
+
+#[repr(C)]
+pub struct PocketRim {
+    pub refused: u32,
+    pub hits: usize,
+    pub samples: usize,
 }
 
 #[repr(C)]
@@ -97,6 +111,23 @@ pub fn of_single(a: Single) -> PocketSingle
         Single::Of(y) => PocketSingle {
             refused: 0,
             value: y,
+        },
+    }
+}
+
+pub fn of_rim(a: Rim) -> PocketRim
+    ensures { λ r. ⌜ r ≡ ofRim a ⌝ }
+{
+    match a {
+        Rim::Refused(no) => PocketRim {
+            refused: no,
+            hits: 0,
+            samples: 0,
+        },
+        Rim::Of(t) => PocketRim {
+            refused: 0,
+            hits: t.hits,
+            samples: t.samples,
         },
     }
 }

@@ -1,6 +1,6 @@
 // Document 01's ranges for a leaf called alone. Whether a value is in its range.
 ghost use mathlib.Core.Path.{_≡_};
-ghost use Rattle.pocket.specs.Ranges.{inRange, coordinateFit, pointFit, coordinatesFit, radiusFit, cellFit, angleFit, rootFit, gridFit, diskFit, sidesFit};
+ghost use Rattle.pocket.specs.Ranges.{inRange, contactFit, coordinateFit, pointFit, coordinatesFit, radiusFit, cellFit, angleFit, rootFit, gridFit, diskFit, sidesFit};
 use geom::vec2::Vec2;
 use numbers::order::abs;
 use numbers::order::is_finite;
@@ -51,6 +51,12 @@ pub fn angle_fits(a: f64) -> bool
     ensures { λ b. ⌜ b ≡ angleFit a ⌝ }
 {
     is_in_range(a, 0.0, numbers::circle::TAU)
+}
+
+pub fn contact_fits(hits: usize, samples: usize) -> bool
+    ensures { λ b. ⌜ b ≡ contactFit hits samples ⌝ }
+{
+    (hits <= samples) & ((8 <= samples) & (samples <= 4096))
 }
 
 pub fn root_fits(x: f64) -> bool

@@ -16,8 +16,9 @@ use Rattle.geom.specs.Vec.{v2, sum, scaled}
 use Rattle.geom.specs.declared.vec2.Vec2.{Vec2}
 use Rattle.raster.specs.Grid.{stockAt}
 use Rattle.geom.specs.Points.{putPoint}
-use Rattle.raster.specs.Contact.{samplesOf, directionAt, rimAt, hitAt, hitsOf, angleOf, engagementOf, Rim, putRim, rimmed}
+use Rattle.raster.specs.Contact.{samplesOf, directionAt, rimAt, hitAt, hitsOf, rimContact, Rim, putRim, rimmed}
 use Rattle.raster.specs.declared.grid.Grid.{Grid}
+use Rattle.raster.specs.declared.contact.Contact.{Contact}
 use Rattle.raster.proofs.SweepLaws.{loop-suc}
 
 -- ---- the table
@@ -107,6 +108,15 @@ hits-most g m c r n (suc e) =
     subst (λ (h : ℕ). h ≤ suc e) (loop-suc (hitAt g m c r n) e 0)
     (let z = hit-more g m c r n e (loop (hitAt g m c r n) 0 e 0) in omega (arith, hits-most g m c r n e))
 
-pub engagement-is : (g : Grid) (m : List ℕ) (c : Vec2) (r : Float) (s n h : ℕ) (a : Float) → n ≡ samplesOf s → h ≡ hitsOf g m c r n → a ≡ angleOf h n → a ≡ engagementOf g m c r s
-unfolding engagementOf
-engagement-is g m c r s n h a d e f = rw (← d, ← e) f
+pub contact-is : (g : Grid) (m : List ℕ) (c : Vec2) (r : Float) (s n h : ℕ) → n ≡ samplesOf s → h ≡ hitsOf g m c r n → record { hits = h; samples = n } ≡ rimContact g m c r s
+unfolding rimContact
+contact-is g m c r s n h d e = rw (← d, ← e)
+
+-- of a contact that is measured
+pub contact-most : (g : Grid) (m : List ℕ) (c : Vec2) (r : Float) (s : ℕ) → rimContact g m c r s .hits ≤ rimContact g m c r s .samples
+unfolding rimContact hitsOf
+contact-most g m c r s = hits-most g m c r (samplesOf s) (samplesOf s)
+
+pub contact-least : (g : Grid) (m : List ℕ) (c : Vec2) (r : Float) (s : ℕ) → 8 ≤ rimContact g m c r s .samples
+unfolding rimContact samplesOf
+contact-least g m c r s = omega arith

@@ -1,4 +1,4 @@
--- Contact: the angle of a tool's rim that lies over stock, by samples of the rim. Definitions only.
+-- Contact: how many samples of a tool's rim lie over stock, and the angle that they stand for. Definitions only.
 use Prim.Native.Nat.{ℕ, _+_, _*_, _≤_, _<_, max}
 use mathlib.Core.Path.{_≡_}
 use mathlib.Core.Bool.{cond}
@@ -14,6 +14,7 @@ use Rattle.geom.specs.declared.vec2.Vec2.{Vec2}
 use Rattle.raster.specs.Grid.{stockAt}
 use Rattle.numbers.specs.Cast.{float}
 use Rattle.raster.specs.declared.grid.Grid.{Grid}
+use Rattle.raster.specs.declared.contact.Contact.{Contact}
 
 -- at least 8 samples
 unfoldable pub samplesOf : ℕ → ℕ
@@ -34,12 +35,13 @@ hitAt g m c r n k h = cond (stockAt g m (rimAt c r (directionAt n k))) (h + 1) h
 unfoldable pub hitsOf : Grid → List ℕ → Vec2 → Float → ℕ → ℕ
 hitsOf g m c r n = loop (hitAt g m c r n) 0 n 0
 
--- the angle that h hits of n stand for
-unfoldable pub angleOf : ℕ → ℕ → Float
-angleOf h n = div binary64 (mul binary64 tau (float h)) (float n)
+-- points hit and points sampled
+unfoldable pub rimContact : Grid → List ℕ → Vec2 → Float → ℕ → Contact
+rimContact g m c r samples = record { hits = hitsOf g m c r (samplesOf samples); samples = samplesOf samples }
 
-unfoldable pub engagementOf : Grid → List ℕ → Vec2 → Float → ℕ → Float
-engagementOf g m c r samples = angleOf (hitsOf g m c r (samplesOf samples)) (samplesOf samples)
+-- the angle of a contact, which `engagement` of raster.rs gives: TAU * hits as f64 / n as f64
+unfoldable pub angleOf : Contact → Float
+angleOf t = div binary64 (mul binary64 tau (float (t .hits))) (float (t .samples))
 
 -- w holds the directions of n samples, as cosine and sine
 pub record Rim (n : ℕ) (w : List Float) : Type 0 where

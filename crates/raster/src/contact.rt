@@ -1,15 +1,21 @@
-// Contact: the angle of a tool's rim over stock. The directions of the samples are worked out once,
-// into a lent table.
+// Contact: how many samples of a tool's rim are over stock, and the angle that they stand for. The
+// directions of the samples are worked out once, into a lent table.
 ghost use mathlib.Core.Path.{_≡_};
 ghost use Prim.Native.Nat.{_*_, _≤_, _<_};
 ghost use lib.ListN.{length};
 ghost use Rattle.raster.specs.Grid.{Over};
-ghost use Rattle.raster.specs.Contact.{samplesOf, directionAt, hitsOf, angleOf, engagementOf, Rim, rimmed};
+ghost use Rattle.raster.specs.Contact.{samplesOf, directionAt, hitsOf, rimContact, angleOf, Rim, rimmed};
 use super::grid::Grid;
 use super::grid::at;
 use geom::vec2::Vec2;
 use numbers::cast::float_of;
 use numbers::circle::TAU;
+
+// Points of a tool's rim: how many were hit, being over stock, of how many sampled.
+pub struct Contact {
+    pub hits: usize,
+    pub samples: usize,
+}
 
 pub fn samples_of(n: usize) -> usize
     ensures { λ r. ⌜ r ≡ samplesOf n ⌝ }
@@ -43,10 +49,10 @@ pub fn hits(g: Grid, map: &[u8], c: Vec2, r: f64, rim: &[f64], n: usize) -> usiz
     ensures { λ h. ⌜ h ≡ hitsOf g (now (map .entry)) c r n ⌝ }
 {
     let mut h = 0;
-    for k in 0..n {
+    for sample in 0..n {
         let u = Vec2 {
-            x: rim[2 * k],
-            y: rim[2 * k + 1],
+            x: rim[2 * sample],
+            y: rim[2 * sample + 1],
         };
         if at(g, map, c.add(u.scale(r))) {
             h += 1;
@@ -55,19 +61,22 @@ pub fn hits(g: Grid, map: &[u8], c: Vec2, r: f64, rim: &[f64], n: usize) -> usiz
     h
 }
 
-// The angle that hits of n samples stand for.
-pub fn angle_of(hits: usize, n: usize) -> f64
-    ensures { λ a. ⌜ a ≡ angleOf hits n ⌝ }
-{
-    TAU * float_of(hits) / float_of(n)
-}
-
 // Contact of a tool of radius r at c. The table is of the samples, at least 8.
-pub fn engagement(g: Grid, map: &[u8], c: Vec2, r: f64, rim: &[f64], samples: usize) -> f64
+pub fn rim_contact(g: Grid, map: &[u8], c: Vec2, r: f64, rim: &[f64], samples: usize) -> Contact
     requires { ⌜ Over g (length (now map)) ⌝ }
     requires { ⌜ Rim (samplesOf samples) (now rim) ⌝ }
-    ensures { λ a. ⌜ a ≡ engagementOf g (now (map .entry)) c r samples ⌝ }
+    ensures { λ t. ⌜ t ≡ rimContact g (now (map .entry)) c r samples ⌝ }
 {
     let n = samples_of(samples);
-    angle_of(hits(g, map, c, r, rim, n), n)
+    Contact {
+        hits: hits(g, map, c, r, rim, n),
+        samples: n,
+    }
+}
+
+// The angle of a contact: whoever needs it has it from here.
+pub fn angle_of(t: Contact) -> f64
+    ensures { λ a. ⌜ a ≡ angleOf t ⌝ }
+{
+    TAU * float_of(t.hits) / float_of(t.samples)
 }

@@ -14,7 +14,8 @@ use Rattle.geom.specs.Segment.{anyWithin}
 use Rattle.geom.specs.declared.vec2.Vec2.{Vec2}
 use Rattle.raster.specs.Grid.{Over, cellOf}
 use Rattle.raster.specs.Stock.{countDisk}
-use Rattle.raster.specs.Contact.{engagementOf}
+use Rattle.raster.specs.Contact.{rimContact}
+use Rattle.raster.specs.declared.contact.Contact.{Contact}
 use Rattle.raster.specs.declared.grid.Grid.{Grid}
 use Rattle.raster.specs.declared.grid.Found.{Found}
 use Rattle.raster.specs.declared.grid.Found.the-variants.{Nothing, At}
@@ -40,9 +41,9 @@ allowedAt s wall vs lens p = wallAt (s .grid) wall (s .keep) p && (not (anyWithi
 unfoldable pub freeAt : Setup → List ℕ → Vec2 → Bool
 freeAt s m p = eqb (countDisk (s .grid) p (s .r) m) 0
 
--- contact of a tool of radius r
-unfoldable pub contactAt : Setup → List ℕ → Vec2 → Float → Float
-contactAt s m p r = engagementOf (s .grid) m p r (s .samples)
+-- contact of a tool of radius r: points of its rim hit, and sampled
+unfoldable pub contactAt : Setup → List ℕ → Vec2 → Float → Contact
+contactAt s m p r = rimContact (s .grid) m p r (s .samples)
 
 -- how deep a straight cut at the target bites: r * (1.0 - target.cos())
 unfoldable pub biteOf : Setup → Float

@@ -6,6 +6,7 @@ ghost use Rattle.raster.specs.Contact.{samplesOf, Rim};
 ghost use Rattle.setup.specs.Place.{Walls, wallAt, allowedAt, freeAt, contactAt, biteOf};
 use super::Setup;
 use geom::vec2::Vec2;
+use raster::contact::Contact;
 use raster::grid::Found;
 use raster::grid::Grid;
 
@@ -49,13 +50,13 @@ pub fn free(s: Setup, map: &[u8], p: Vec2) -> bool
 }
 
 // Contact of a tool of radius r at p.
-pub fn contact(s: Setup, map: &[u8], rim: &[f64], p: Vec2, r: f64) -> f64
+pub fn contact(s: Setup, map: &[u8], rim: &[f64], p: Vec2, r: f64) -> Contact
     requires { ⌜ Over (s .grid) (length (now map)) ⌝ }
     requires { ⌜ Rim (samplesOf (s .samples)) (now rim) ⌝ }
-    ensures { λ a. ⌜ a ≡ contactAt s (now (map .entry)) p r ⌝ }
+    ensures { λ t. ⌜ t ≡ contactAt s (now (map .entry)) p r ⌝ }
 {
     let g = s.grid;
-    raster::contact::engagement(g, map, p, r, rim, s.samples)
+    raster::contact::rim_contact(g, map, p, r, rim, s.samples)
 }
 
 // How deep a straight cut at the target bites.

@@ -11,7 +11,7 @@ use Rattle.geom.specs.Vec.{f0}
 use Rattle.geom.specs.declared.vec2.Vec2.{Vec2}
 use Rattle.geom.specs.declared.region.Region.{Region}
 use Rattle.raster.specs.Log.{Stock, st, clearAfter, undone}
-use Rattle.raster.specs.Contact.{engagementOf}
+use Rattle.raster.specs.Contact.{rimContact, angleOf}
 use Rattle.raster.specs.Fill.{fillRegion}
 use Rattle.raster.specs.declared.grid.Grid.{Grid}
 use Rattle.vectors_maps.specs.Print.{rootsOf}
@@ -63,7 +63,7 @@ pub record Fill (s : List ℕ) (last nx ny : ℕ) : Type 0 where
 -- ---- contact
 
 pub record Contact (s : List ℕ) (nx ny : ℕ) : Type 0 where
-  pub angle : getD s 12 0 ≡ toBits binary64 (engagementOf (gridOf s nx ny) (mapOf s nx ny) (pointAt s 8) (floatAt s 10) (getD s 11 0))
+  pub angle : getD s 12 0 ≡ toBits binary64 (angleOf (rimContact (gridOf s nx ny) (mapOf s nx ny) (pointAt s 8) (floatAt s 10) (getD s 11 0)))
 
 -- ---- the distance map
 

@@ -8,8 +8,9 @@ use super::maps::make;
 use super::maps::point;
 use bits::float;
 use bits::pattern;
-use raster::contact::engagement;
+use raster::contact::angle_of;
 use raster::contact::fill_rim;
+use raster::contact::rim_contact;
 use raster::contact::samples_of;
 
 pub fn judged(s: &[u64; 64], last: usize, nx: usize, ny: usize) -> Judged
@@ -29,8 +30,8 @@ pub fn judged(s: &[u64; 64], last: usize, nx: usize, ny: usize) -> Judged
     make(s[1], s[2], ny * nx, &mut map);
     fill_rim(&mut rim, samples_of(samples));
     let g = grid(s, nx, ny);
-    let angle = engagement(g, &map, point(s, 8), float(s[10]), &rim, samples);
-    if pattern(angle) == s[12] {
+    let t = rim_contact(g, &map, point(s, 8), float(s[10]), &rim, samples);
+    if pattern(angle_of(t)) == s[12] {
         return Judged::Agrees;
     }
     Judged::Differs

@@ -8,6 +8,7 @@ use oracle::generate::Rng;
 use oracle::geom::Region;
 use oracle::raster::Grid;
 use oracle::vec2::{Vec2, v2};
+use std::f64::consts::TAU;
 
 /// At least this many calls of each function.
 const CALLS: usize = 100_000;
@@ -185,6 +186,28 @@ fn contact() {
             let samples = [0, 4, 8, 9, 48, 96][r.below(6) as usize];
             let want = grid.engagement_printed(c, rad, samples);
             assert_eq!(stock.engagement(c, rad, samples).bits(), want.bits(), "{c:?} {rad} {samples}");
+        }
+    });
+}
+
+/// Points of the rim, hit and sampled, by the published map's cells; the angle of the two.
+#[test]
+fn rim_points() {
+    each(35, CALLS / 4, |r, stock, grid| {
+        let origin = pocket::Point::new(grid.origin.x, grid.origin.y);
+        let map = pocket::Map {
+            grid: pocket::Grid { origin, cell: grid.cell, nx: grid.nx, ny: grid.ny },
+            bytes: stock.map,
+        };
+        for _ in 0..4 {
+            let (c, rad) = (point(r, &grid), radius(r, &grid));
+            let samples = [0, 4, 8, 9, 48, 96][r.below(6) as usize];
+            let got = map.contact(pocket::Point::new(c.x, c.y), rad, samples).unwrap();
+            let n = samples.max(8);
+            let direction = |k: usize| Vec2::from_angle(TAU * (k as f64 + 0.5) / n as f64);
+            let hits = (0..n).filter(|k| grid.at(c + direction(*k) * rad)).count();
+            assert_eq!((got.hits(), got.samples()), (hits, n), "{c:?} {rad} {samples}");
+            assert_eq!(got.angle().bits(), grid.engagement_printed(c, rad, samples).bits());
         }
     });
 }

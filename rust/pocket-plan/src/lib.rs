@@ -8,6 +8,7 @@ pub mod output;
 pub mod page;
 pub mod picture;
 pub mod progress;
+pub mod replay;
 pub mod scene;
 pub mod why;
 pub mod words;

@@ -1,4 +1,5 @@
 //! Numbers and a report in words.
+use crate::replay;
 use crate::scene::Scene;
 
 /// A whole number, its thousands parted.
@@ -49,14 +50,7 @@ pub fn facts(scene: &Scene) -> Vec<(&'static str, String)> {
         format!("{} of {} mm at most, Z {} to {} mm", many(r.layers, "layer"), p.step_down, p.top, p.bottom);
     let mut facts = vec![
         ("tool", format!("{} mm, {} mm left on walls", p.tool_diameter, p.stock_to_leave)),
-        (
-            "contact",
-            format!(
-                "at most {} of {} degrees",
-                decimal(r.planned_max_engagement_deg, 2),
-                p.max_engagement_deg
-            ),
-        ),
+        ("contact", contact(scene)),
         ("depth", layers),
         (
             "starting stock",
@@ -71,6 +65,16 @@ pub fn facts(scene: &Scene) -> Vec<(&'static str, String)> {
     ];
     facts.extend(warnings(scene).map(|warning| ("note", warning)));
     facts
+}
+
+/// The greatest contact, as its angle and as points of the rim.
+fn contact(scene: &Scene) -> String {
+    let (most, limit) = (scene.plan.report.planned_max_engagement_deg, scene.job.params.max_engagement_deg);
+    let degrees = format!("at most {} of {limit} degrees", decimal(most, 2));
+    match replay::greatest(scene) {
+        Some(c) => format!("{degrees}: {} of {} rim points", count(c.hits()), count(c.samples())),
+        None => degrees,
+    }
 }
 
 /// What the tool does in a layer.

@@ -72,9 +72,17 @@ fn a_job_is_planned_and_told() {
     assert_eq!((status(&output), err(&output)), (0, String::new()));
     let text = out(&output);
     assert!(text.starts_with("jobs/small.job: planned in "));
-    for part in
-        ["4 mm", "of 80 degrees", "1 layer", "mm2 (", "passes", "1 helix entry", "rows", "cells of 0.066 mm"]
-    {
+    for part in [
+        "4 mm",
+        "of 80 degrees: ",
+        " rim points",
+        "1 layer",
+        "mm2 (",
+        "passes",
+        "1 helix entry",
+        "rows",
+        "cells of 0.066 mm",
+    ] {
         assert!(text.contains(part), "{part}: {text}");
     }
     assert!(!text.contains("wrote"));

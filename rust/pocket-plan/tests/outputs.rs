@@ -1,6 +1,7 @@
 //! What the command writes is well formed, and says what the plan says.
+use pocket::Chunk;
 use pocket_plan::scene::Scene;
-use pocket_plan::{file, image, list, picture};
+use pocket_plan::{file, image, list, picture, replay, words};
 use std::fs;
 use std::path::Path;
 use std::sync::LazyLock;
@@ -16,6 +17,24 @@ static SMALL: LazyLock<Scene> = LazyLock::new(|| {
     let path = Path::new(env!("CARGO_MANIFEST_DIR")).join("../../jobs/small.job");
     scene("<a & \"b\">\u{1}.job", &fs::read_to_string(path).unwrap())
 });
+
+/// Where a cut's angle is greatest, the replay counts the contact that it lists.
+#[test]
+fn contact_is_counted_as_it_is_listed() {
+    let rows = replay::rows(&SMALL);
+    assert_eq!(rows.len(), SMALL.plan.rows.len());
+    for (chunk, row) in SMALL.plan.chunks().zip(&rows) {
+        let listed = match chunk {
+            Chunk::Cut(cuts) => cuts.iter().skip(1).map(|cut| cut.angle).max_by(f64::total_cmp),
+            _ => None,
+        };
+        assert_eq!(row.contact.map(|contact| contact.angle()), listed);
+    }
+    let most = replay::greatest(&SMALL).unwrap();
+    assert_eq!(most.angle().to_degrees(), SMALL.plan.report.planned_max_engagement_deg);
+    let told = format!(": {} of {} rim points", most.hits(), most.samples());
+    assert!(words::report(&SMALL).contains(&told), "{told}");
+}
 
 /// CRC 32 by its polynomial, a bit at a time.
 fn crc(bytes: &[u8]) -> u32 {

@@ -5,6 +5,7 @@ use chromium::Browser;
 use pocket::{Chunk, Job, Params, Shape};
 use pocket_plan::page::page;
 use pocket_plan::scene::Scene;
+use std::f64::consts::TAU;
 use std::path::PathBuf;
 
 /// A small pocket with an island, planned.
@@ -40,11 +41,12 @@ fn word(chunk: &Chunk) -> &'static str {
     }
 }
 
-/// The greatest contact of a row, as the page writes it.
-fn contact(chunk: &Chunk) -> String {
+/// The greatest contact of a row, as the page writes it; its hits by the angle that is listed.
+fn contact(chunk: &Chunk, samples: usize) -> String {
     let Chunk::Cut(cuts) = chunk else { return "\u{2013}".into() };
-    let greatest = cuts.iter().map(|cut| cut.contact).fold(0.0, f64::max);
-    format!("{:.1}\u{b0}", greatest.to_degrees())
+    let greatest = cuts.iter().map(|cut| cut.angle).fold(0.0, f64::max);
+    let hits = (greatest / TAU * samples as f64).round();
+    format!("{:.1}\u{b0}, {hits} of {samples} rim points", greatest.to_degrees())
 }
 
 fn points(chunk: &Chunk) -> usize {
@@ -94,6 +96,8 @@ fn is_driven() {
     let Some(mut page) = opened(&scene) else { return };
     let chunks: Vec<Chunk> = scene.plan.chunks().collect();
     let report = &scene.plan.report;
+    // A rim of 2 mm, cells of 1/15 mm.
+    let samples = 377;
 
     page.at(0);
     assert_eq!(page.text("standing"), report.starting_cells.to_string());
@@ -105,7 +109,7 @@ fn is_driven() {
         page.at(k + 1);
         assert_eq!(page.text("kind"), word(chunk));
         assert_eq!(page.text("points"), points(chunk).to_string());
-        assert_eq!(page.text("contact"), contact(chunk));
+        assert_eq!(page.text("contact"), contact(chunk, samples));
     }
 
     // The end is the map that was handed back.

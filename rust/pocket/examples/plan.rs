@@ -19,6 +19,8 @@ fn main() -> Result<(), Refusal> {
     });
     println!("the longest pass has {} points", longest.max().unwrap_or(0));
     let left = Map { grid: plan.grid, bytes: plan.map };
-    println!("contact of a radius of 2.6 mm in a corner: {}", left.contact(Point::new(2.0, 2.0), 2.6, 360)?);
+    let contact = left.contact(Point::new(2.0, 2.0), 2.6, 360)?;
+    let (hits, samples, angle) = (contact.hits(), contact.samples(), contact.angle());
+    println!("contact of a radius of 2.6 mm in a corner: {hits} of {samples} rim points, {angle}");
     Ok(())
 }

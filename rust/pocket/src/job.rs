@@ -1,5 +1,6 @@
 //! A job: parameters, pocket and stock, and the sizes of what is lent.
 use crate::plan::{Grid, MOST_ROWS, MOST_TRIPLES};
+use std::f64::consts::PI;
 
 #[derive(Clone, Copy, Debug, Default, PartialEq)]
 #[repr(C)]
@@ -59,6 +60,14 @@ impl Params {
     /// Side of a raster's cell.
     pub fn cell(&self) -> f64 {
         self.resolution.unwrap_or(self.tool_diameter / 80.0)
+    }
+
+    /// How a plan counts contact: at a radius wider by a quarter of a cell, by a sample for each half cell of the
+    /// tool's rim, 64 to 2,048 of them.
+    pub fn rim(&self) -> (f64, usize) {
+        let (r, cell) = (self.tool_diameter / 2.0, self.cell());
+        let samples = (4.0 * PI * r / cell).ceil() as usize;
+        (r + 0.25 * cell, samples.clamp(64, 2048))
     }
 }
 

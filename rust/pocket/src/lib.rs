@@ -15,6 +15,6 @@ mod refusal;
 
 pub use job::{Job, Lent, Params, Point, RawJob, Shape};
 pub use linked::{cos, narrow, sin, sqrt, wanted};
-pub use map::{Distances, Log, Map};
+pub use map::{Contact, Distances, Log, Map};
 pub use plan::{Chunk, Cut, Grid, MOST_ROWS, MOST_TRIPLES, Plan, Report, workspace_needed};
 pub use refusal::{LAST, Refusal};

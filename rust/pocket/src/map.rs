@@ -36,6 +36,28 @@ pub struct Distances {
     pub distances: Vec<f64>,
 }
 
+/// Points of a tool's rim that are over stock, of those sampled.
+#[derive(Clone, Copy, Debug, PartialEq, Eq)]
+pub struct Contact {
+    hits: usize,
+    samples: usize,
+}
+
+impl Contact {
+    pub fn hits(&self) -> usize {
+        self.hits
+    }
+
+    pub fn samples(&self) -> usize {
+        self.samples
+    }
+
+    /// The angle that they stand for, in radians.
+    pub fn angle(&self) -> f64 {
+        linked::contact_angle(self.hits, self.samples).expect("a contact that was counted has its angle")
+    }
+}
+
 impl Map {
     /// A map without stock.
     pub fn new(grid: Grid) -> Result<Map, Refusal> {
@@ -89,9 +111,10 @@ impl Map {
         linked::standing(self.sides(), &self.bytes)
     }
 
-    /// The angle of a tool's rim over stock, by samples of the rim, at least 8.
-    pub fn contact(&self, center: Point, radius: f64, samples: usize) -> Result<f64, Refusal> {
+    /// How many points of a tool's rim are over stock, by samples of the rim, at least 8.
+    pub fn contact(&self, center: Point, radius: f64, samples: usize) -> Result<Contact, Refusal> {
         linked::contact(self.grid, &self.bytes, center, radius, samples)
+            .map(|(hits, samples)| Contact { hits, samples })
     }
 
     /// Column and row of the cell that holds a point; none off the grid.

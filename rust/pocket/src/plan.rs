@@ -48,11 +48,11 @@ pub struct Report {
     pub left_reachable: bool,
 }
 
-/// A point of a cut, and the contact there in radians; at the first point it is 0, unmeasured.
+/// A point of a cut, and the angle of contact there in radians; at the first point it is 0, unmeasured.
 #[derive(Clone, Copy, Debug, PartialEq)]
 pub struct Cut {
     pub at: Point,
-    pub contact: f64,
+    pub angle: f64,
 }
 
 #[derive(Clone, Debug, PartialEq)]
@@ -102,8 +102,8 @@ impl Plan {
     }
 }
 
-fn cut(&[x, y, contact]: &[f64; 3]) -> Cut {
-    Cut { at: Point::new(x, y), contact }
+fn cut(&[x, y, angle]: &[f64; 3]) -> Cut {
+    Cut { at: Point::new(x, y), angle }
 }
 
 /// Most rows and triples that are ever lent.

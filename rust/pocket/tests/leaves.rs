@@ -109,6 +109,30 @@ fn samples_to_4_096() {
 }
 
 #[test]
+fn an_angle_of_8_to_4_096_samples_and_no_more_hits() {
+    for (hits, samples, expected) in [
+        (0, 8, 0),
+        (8, 8, 0),
+        (9, 8, 12),
+        (7, 7, 12),
+        (0, 0, 12),
+        (4096, 4096, 0),
+        (4097, 4096, 12),
+        (0, 4097, 12),
+        (usize::MAX, 8, 12),
+        (0, usize::MAX, 12),
+    ] {
+        assert_eq!(number(linked::contact_angle(hits, samples)), expected, "{hits} of {samples}");
+    }
+    for samples in [8, 9, 360, 4096] {
+        for hits in [0, 1, samples / 2, samples] {
+            let angle = TAU * hits as f64 / samples as f64;
+            assert_eq!(linked::contact_angle(hits, samples), Ok(angle));
+        }
+    }
+}
+
+#[test]
 fn sides_to_4_096_and_cells_to_1_048_576() {
     for (nx, ny, expected) in [
         (4096, 1, 0),

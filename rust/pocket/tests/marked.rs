@@ -44,13 +44,18 @@ fn a_crescent_from_a_point_to_itself_is_empty() {
 
 #[test]
 fn contact_is_the_whole_rim_or_none_and_takes_eight_samples() {
-    assert_eq!(map(1).contact(MIDDLE, 1.0, 8), Ok(TAU));
-    assert_eq!(map(0).contact(MIDDLE, 1.0, 8), Ok(0.0));
+    let told = |map: &Map, samples: usize| {
+        let contact = map.contact(MIDDLE, 1.0, samples).unwrap();
+        (contact.hits(), contact.samples(), contact.angle())
+    };
+    assert_eq!(told(&map(1), 4), (8, 8, TAU));
+    assert_eq!(told(&map(0), 4), (0, 8, 0.0));
     // Two of eight samples meet the only cell, at half a step to either side of east; of four none would.
     let mut one = map(0);
     one.bytes[13] = 1;
-    assert_eq!(one.contact(MIDDLE, 1.0, 8), Ok(TAU / 4.0));
-    assert_eq!(one.contact(MIDDLE, 1.0, 4), Ok(TAU / 4.0));
+    assert_eq!(told(&one, 8), (2, 8, TAU / 4.0));
+    assert_eq!(told(&one, 4), (2, 8, TAU / 4.0));
+    assert_eq!(told(&one, 9).1, 9);
 }
 
 #[test]

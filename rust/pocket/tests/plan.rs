@@ -35,8 +35,8 @@ fn sound(job: &Job) -> pocket::Plan {
             Chunk::Plunge(_) => 1,
             Chunk::Link(_) => 2,
             Chunk::Cut(cuts) => {
-                assert_eq!(cuts[0].contact, 0.0);
-                greatest = cuts.iter().fold(greatest, |most, cut| most.max(cut.contact));
+                assert_eq!(cuts[0].angle, 0.0);
+                greatest = cuts.iter().fold(greatest, |most, cut| most.max(cut.angle));
                 3
             }
         }] += 1;

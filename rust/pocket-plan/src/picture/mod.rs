@@ -237,7 +237,7 @@ impl Drawing<'_> {
         let mut from = 0;
         while from + 1 < cuts.len() {
             let to = part(&spots, from);
-            let greatest = cuts[from + 1..=to].iter().map(|cut| cut.contact).fold(0.0, f64::max);
+            let greatest = cuts[from + 1..=to].iter().map(|cut| cut.angle).fold(0.0, f64::max);
             let step = self.scale.step_of(greatest.to_degrees());
             match parts.last_mut().filter(|last| last.2 == step) {
                 Some(last) => last.1 = to,

@@ -84,6 +84,14 @@ pub struct Single {
 
 #[derive(Clone, Copy, Debug)]
 #[repr(C)]
+pub struct Rim {
+    pub refused: u32,
+    pub hits: usize,
+    pub samples: usize,
+}
+
+#[derive(Clone, Copy, Debug)]
+#[repr(C)]
 pub struct Cell {
     pub refused: u32,
     pub found: bool,
@@ -155,7 +163,8 @@ unsafe extern "C" {
         center: Point,
         radius: f64,
         samples: usize,
-    ) -> Number;
+    ) -> Rim;
+    pub fn pocket_contact_angle(hits: usize, samples: usize) -> Number;
     pub fn pocket_cell_of(grid: Grid, point: Point) -> Cell;
     pub fn pocket_fill_region(
         grid: Grid,

@@ -104,9 +104,21 @@ pub fn standing([nx, ny]: [usize; 2], map: &[u8]) -> Result<usize, Refusal> {
     count(unsafe { c::pocket_standing(nx, ny, map.as_ptr(), map.len()) })
 }
 
-/// The angle of a tool's rim over stock, by samples of the rim.
-pub fn contact(grid: Grid, map: &[u8], center: Point, radius: f64, samples: usize) -> Result<f64, Refusal> {
-    number(unsafe { c::pocket_contact(grid, map.as_ptr(), map.len(), center, radius, samples) })
+/// How many points of a tool's rim are over stock, of how many sampled: as many as are asked for, at least 8.
+pub fn contact(
+    grid: Grid,
+    map: &[u8],
+    center: Point,
+    radius: f64,
+    samples: usize,
+) -> Result<(usize, usize), Refusal> {
+    let rim = unsafe { c::pocket_contact(grid, map.as_ptr(), map.len(), center, radius, samples) };
+    Refusal::answered(rim.refused).map(|()| (rim.hits, rim.samples))
+}
+
+/// The angle that so many hits of so many samples stand for.
+pub fn contact_angle(hits: usize, samples: usize) -> Result<f64, Refusal> {
+    number(unsafe { c::pocket_contact_angle(hits, samples) })
 }
 
 /// Column and row of the cell that holds a point; none off the grid.

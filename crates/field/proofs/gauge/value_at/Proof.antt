@@ -38,11 +38,14 @@ center-requires c κs = search needs
 contact-requires : tie.Need-contact-requires
 contact-requires c κs = search needs
 
+angle-of-requires : tie.Need-angle-of-requires
+angle-of-requires c κs = search needs
+
 narrow-requires : tie.Need-narrow-requires
 narrow-requires c κs = search needs
 
 returns-3 : tie.Need-returns-3
-returns-3 c = value-sampled _ (c .before .before .before .before .before .before .before .before .before .before .before .before .before .before .before .pre .0) _ _ _ _ _ (c .before .before .before .before .before .before .before .beyond .ensures) (c .before .before .before .before .before .before .if1 .left) _ (c .before .before .before .before .is-within .ensures) (c .before .before .before .if2 .left) _ _ _ (c .before .before .center .ensures) (c .before .contact .ensures) (c .narrow .ensures)
+returns-3 c = value-sampled _ (c .before .before .before .before .before .before .before .before .before .before .before .before .before .before .before .before .pre .0) _ _ _ _ _ (c .before .before .before .before .before .before .before .before .beyond .ensures) (c .before .before .before .before .before .before .before .if1 .left) _ (c .before .before .before .before .before .is-within .ensures) (c .before .before .before .before .if2 .left) _ _ _ _ (c .before .before .before .center .ensures) (c .before .before .contact .ensures) (c .before .angle-of .ensures) (c .narrow .ensures)
 
 pub value-at-spec : {M : Type 1} → statement M
 value-at-spec =
@@ -58,5 +61,6 @@ value-at-spec =
     returns-2
     center-requires
     contact-requires
+    angle-of-requires
     narrow-requires
     returns-3)

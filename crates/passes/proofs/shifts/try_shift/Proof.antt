@@ -19,18 +19,21 @@ enum-known-p c = search needs
 sat-add-requires : tie.Need-sat-add-requires
 sat-add-requires c κs = search needs
 
+angle-of-requires : tie.Need-angle-of-requires
+angle-of-requires c κs = search needs
+
 returns : tie.Need-returns
 returns c =
-    let b = c .before .before .before in
-    try-taken _ _ _ _ _ _ _ _ _ _ (b .before .before .before .moved .ensures) (b .before .before .probe-at .ensures) _ _ (b .p .given .1) (c .before .sat-add .ensures) (c .if1 .taken)
+    let b = c .before .before .before .before in
+    try-taken _ _ _ _ _ _ _ _ _ _ (b .before .before .before .moved .ensures) (b .before .before .probe-at .ensures) _ _ _ (b .p .given .1) (c .before .before .sat-add .ensures) (c .before .angle-of .ensures) (c .if1 .taken)
 
 returns-2 : tie.Need-returns-2
 returns-2 c = try-barred _ _ _ _ _ _ _ _ _ _ (c .before .before .before .moved .ensures) (c .before .before .probe-at .ensures) (c .enum-told .given .1)
 
 returns-3 : tie.Need-returns-3
 returns-3 c =
-    let b = c .before .before .before in
-    try-left _ _ _ _ _ _ _ _ _ _ (b .before .before .before .moved .ensures) (b .before .before .probe-at .ensures) _ _ (b .p .given .1) (c .before .sat-add .ensures) (c .if1 .left)
+    let b = c .before .before .before .before in
+    try-left _ _ _ _ _ _ _ _ _ _ (b .before .before .before .moved .ensures) (b .before .before .probe-at .ensures) _ _ _ (b .p .given .1) (c .before .before .sat-add .ensures) (c .before .angle-of .ensures) (c .if1 .left)
 
 pub try-shift-spec : {M : Type 1} → statement M
 try-shift-spec =
@@ -41,6 +44,7 @@ try-shift-spec =
     enum-told
     enum-known-p
     sat-add-requires
+    angle-of-requires
     returns
     returns-2
     returns-3)

@@ -1,7 +1,7 @@
 -- `pocket::rim::contact` meets its contract. Assumes nothing.
 use mathlib.Core.Path.{refl, sym, ap, _∙_}
 use borrow.Author.Needs.{needs}
-use Rattle.pocket.specs.declared.answers.Number.the-variants.{Refused, Of}
+use Rattle.pocket.specs.declared.answers.Rim.the-variants.{Refused, Of}
 use Rattle.pocket.specs.Leaves.{contactOf}
 use Rattle.pocket.proofs.AskedLaws.{both-are, map-by, map-none, map-over, samples-few, rim-at}
 use Rattle.pocket.proofs.LeafLaws.{is-refused, is-answered}
@@ -30,15 +30,15 @@ samples-of-requires c κs = search needs
 fill-rim-requires : tie.Need-fill-rim-requires
 fill-rim-requires c κs = samples-few (c .before .before .before .before .before .grid-fits .result) (c .before .before .before .before .disk-fits .result) _ _ (map-none _ _ _ _ (sym (c .before .before .before .map-refusal .ensures) ∙ c .before .before .if1 .left) .0) (c .samples-of .ensures)
 
-slice-aggregate-engagement : tie.Need-slice-aggregate-engagement
-slice-aggregate-engagement c = search needs
+slice-aggregate-rim-contact : tie.Need-slice-aggregate-rim-contact
+slice-aggregate-rim-contact c = search needs
 
-engagement-requires : tie.Need-engagement-requires
-engagement-requires c κs = (map-over _ _ _ (sym (c .before .before .before .before .before .before .map-refusal .ensures) ∙ c .before .before .before .before .before .if1 .left), rim-at (c .before .before .before .samples-of .ensures) (c .before .before .fill-rim .ensures .1))
+rim-contact-requires : tie.Need-rim-contact-requires
+rim-contact-requires c κs = (map-over _ _ _ (sym (c .before .before .before .before .before .before .map-refusal .ensures) ∙ c .before .before .before .before .before .if1 .left), rim-at (c .before .before .before .samples-of .ensures) (c .before .before .fill-rim .ensures .1))
 
 returns-2 : tie.Need-returns-2
 unfolding contactOf
-returns-2 c = is-answered Refused _ _ (map-by _ _ _ _ _ _ (both-are (c .before .before .before .before .before .before .before .before .before .grid-fits .ensures) (both-are (c .before .before .before .before .before .before .before .before .disk-fits .ensures) refl)) (c .before .before .before .before .before .before .before .map-refusal .ensures)) (c .before .before .before .before .before .before .if1 .left) _ _ (ap Of (c .engagement .ensures))
+returns-2 c = is-answered Refused _ _ (map-by _ _ _ _ _ _ (both-are (c .before .before .before .before .before .before .before .before .before .grid-fits .ensures) (both-are (c .before .before .before .before .before .before .before .before .disk-fits .ensures) refl)) (c .before .before .before .before .before .before .before .map-refusal .ensures)) (c .before .before .before .before .before .before .if1 .left) _ _ (ap Of (c .rim-contact .ensures))
 
 pub contact-spec : {M : Type 1} → statement M
 contact-spec =
@@ -51,6 +51,6 @@ contact-spec =
     slice-aggregate-fill-rim
     samples-of-requires
     fill-rim-requires
-    slice-aggregate-engagement
-    engagement-requires
+    slice-aggregate-rim-contact
+    rim-contact-requires
     returns-2)

@@ -20,13 +20,13 @@ abbrev μ-loop : tie.MeasureT-loop
 loop-holds : tie.Need-loop-holds Inv-loop μ-loop
 loop-holds c = going-none _ _ _ _
 
-most : (c : tie.At-loop Inv-loop μ-loop) → c .loop .h ≤ c .loop .k
+most : (c : tie.At-loop Inv-loop μ-loop) → c .loop .h ≤ c .loop .sample
 most c =
     omega (
       arith,
       c .loop .inv .is,
       hits-most (c .before .before .before .args .g) (c .before .before .before .args .map .now) (c .before .before .before .args .c)
-          (c .before .before .before .args .r) (c .before .before .before .args .n) (c .loop .k),
+          (c .before .before .before .args .r) (c .before .before .before .args .n) (c .loop .sample),
     )
 
 mul-t11 : tie.Need-mul-t11 Inv-loop μ-loop
@@ -62,8 +62,8 @@ at-requires c κs = c .before .before .before .before .before .before .before .b
 add-h : tie.Need-add-h Inv-loop μ-loop
 add-h c = omega (arith, most (c .before .before .before .before .before .before .before))
 
-add-k : tie.Need-add-k Inv-loop μ-loop
-add-k c = omega arith
+add-sample : tie.Need-add-sample Inv-loop μ-loop
+add-sample c = omega arith
 
 loop-less : tie.Need-loop-less Inv-loop μ-loop
 loop-less c = omega arith
@@ -71,7 +71,7 @@ loop-less c = omega arith
 loop-again : tie.Need-loop-again Inv-loop μ-loop
 loop-again c =
     let s = c .before .before .before .before .before .before .before .before .before .before in
-    let k = c .before .before .before .before .before .before .before .loop .k in
+    let k = c .before .before .before .before .before .before .before .loop .sample in
     let e =
     rim-point (s .args .c) (s .args .r) (s .args .n) k _ _ _ _ (s .pre .1 .x k (c .before .before .before .before .before .before .loop-test .taken))
     (s .pre .1 .y k (c .before .before .before .before .before .before .loop-test .taken)) (c .before .before .before .scale .ensures) (c .before .before .add .ensures) in
@@ -103,7 +103,7 @@ hits-spec =
     add-requires
     at-requires
     add-h
-    add-k
+    add-sample
     loop-less
     loop-again
     returns)

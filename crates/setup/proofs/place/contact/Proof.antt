@@ -4,12 +4,12 @@ use borrow.Author.Needs.{needs}
 use Rattle.setup.proofs.place.contact.Statement.{statement}
 use Rattle.setup.proofs.place.contact.Tie as tie
 
-engagement-requires : tie.Need-engagement-requires
-engagement-requires c κs = search needs
+rim-contact-requires : tie.Need-rim-contact-requires
+rim-contact-requires c κs = search needs
 
 returns : tie.Need-returns
 unfolding contactAt
-returns c = c .engagement .ensures
+returns c = c .rim-contact .ensures
 
 pub contact-spec : {M : Type 1} → statement M
-contact-spec = tie.close (tie.spec engagement-requires returns)
+contact-spec = tie.close (tie.spec rim-contact-requires returns)

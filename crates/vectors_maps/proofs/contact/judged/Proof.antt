@@ -43,8 +43,8 @@ fill-rim-requires c κs = rim-room _ _ (c .samples-of .ensures) (c .before .befo
 grid-requires : tie.Need-grid-requires
 grid-requires c κs = search needs
 
-slice-aggregate-engagement : tie.Need-slice-aggregate-engagement
-slice-aggregate-engagement c = search needs
+slice-aggregate-rim-contact : tie.Need-slice-aggregate-rim-contact
+slice-aggregate-rim-contact c = search needs
 
 point-requires : tie.Need-point-requires
 point-requires c κs = search needs
@@ -55,11 +55,14 @@ element-copy-out-float c = search needs
 float-requires : tie.Need-float-requires
 float-requires c κs = search needs
 
-slice-aggregate-engagement-2 : tie.Need-slice-aggregate-engagement-2
-slice-aggregate-engagement-2 c = search needs
+slice-aggregate-rim-contact-2 : tie.Need-slice-aggregate-rim-contact-2
+slice-aggregate-rim-contact-2 c = search needs
 
-engagement-requires : tie.Need-engagement-requires
-engagement-requires c κs = (over-made _ _ _ _ _ _ _ _ _ (c .before .before .before .before .before .before .before .before .before .before .before .before .before .before .before .before .before .before .pre) (c .before .before .before .before .before .grid .ensures) (c .before .before .before .before .before .before .before .before .before .before .before .make .ensures) refl, rim-same _ _ _ (c .before .before .before .before .before .before .before .before .samples-of .ensures) (c .before .before .before .before .before .before .before .fill-rim .ensures .1))
+rim-contact-requires : tie.Need-rim-contact-requires
+rim-contact-requires c κs = (over-made _ _ _ _ _ _ _ _ _ (c .before .before .before .before .before .before .before .before .before .before .before .before .before .before .before .before .before .before .pre) (c .before .before .before .before .before .grid .ensures) (c .before .before .before .before .before .before .before .before .before .before .before .make .ensures) refl, rim-same _ _ _ (c .before .before .before .before .before .before .before .before .samples-of .ensures) (c .before .before .before .before .before .before .before .fill-rim .ensures .1))
+
+angle-of-requires : tie.Need-angle-of-requires
+angle-of-requires c κs = search needs
 
 pattern-requires : tie.Need-pattern-requires
 pattern-requires c κs = search needs
@@ -68,7 +71,7 @@ element-copy-out-if3 : tie.Need-element-copy-out-if3
 element-copy-out-if3 c = search needs
 
 returns-3 : tie.Need-returns-3
-returns-3 c = λ h. contact-agrees (c .before .before .before .before .before .before .before .before .before .before .before .before .before .before .before .before .before .before .before .before .before .before .args .s .now) _ _ _ _ _ _ _ _ (c .before .before .before .before .before .before .before .before .before .before .before .before .before .before .before .make .ensures) (c .before .before .before .before .before .before .before .before .before .grid .ensures) (c .before .before .before .before .before .before .before .point .ensures) (c .before .before .before .before .before .float .ensures) (c .before .before .before .engagement .ensures) (c .before .before .pattern .ensures) (c .if3 .taken)
+returns-3 c = λ h. contact-agrees (c .before .before .before .before .before .before .before .before .before .before .before .before .before .before .before .before .before .before .before .before .before .before .before .args .s .now) _ _ _ _ _ _ _ _ _ (c .before .before .before .before .before .before .before .before .before .before .before .before .before .before .before .before .make .ensures) (c .before .before .before .before .before .before .before .before .before .before .grid .ensures) (c .before .before .before .before .before .before .before .before .point .ensures) (c .before .before .before .before .before .before .float .ensures) (c .before .before .before .before .rim-contact .ensures) (c .before .before .before .angle-of .ensures) (c .before .before .pattern .ensures) (c .if3 .taken)
 
 returns-4 : tie.Need-returns-4
 returns-4 c = not-differs
@@ -89,12 +92,13 @@ judged-spec =
     samples-of-requires
     fill-rim-requires
     grid-requires
-    slice-aggregate-engagement
+    slice-aggregate-rim-contact
     point-requires
     element-copy-out-float
     float-requires
-    slice-aggregate-engagement-2
-    engagement-requires
+    slice-aggregate-rim-contact-2
+    rim-contact-requires
+    angle-of-requires
     pattern-requires
     element-copy-out-if3
     returns-3
