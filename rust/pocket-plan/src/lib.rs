@@ -8,7 +8,6 @@ pub mod output;
 pub mod page;
 pub mod picture;
 pub mod progress;
-pub mod replay;
 pub mod scene;
 pub mod why;
 pub mod words;

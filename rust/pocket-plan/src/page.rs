@@ -1,21 +1,20 @@
 //! The plan as one web page that needs no network: its picture, and a replay of the list row by row on the map.
 use crate::picture;
-use crate::replay::{self, Row};
 use crate::scene::Scene;
 use crate::words;
-use pocket::{Chunk, Point};
+use pocket::{Chunk, Cut, Log, Map, Point, Refusal};
 use std::fmt::Write;
 
 const PAGE: &str = include_str!("page.html");
 
-/// The page of a plan.
+/// The page of a plan. The replay is by the library's own leaves, whose ranges a plan's numbers are within.
 pub fn page(scene: &Scene) -> String {
     let parts = [
         ("title", picture::escaped(&scene.name)),
         ("summary", picture::escaped(&summary(scene))),
         ("picture", picture::svg(scene)),
         ("report", report(scene)),
-        ("plan", data(scene)),
+        ("plan", data(scene).expect("a plan is within the leaves' ranges")),
     ];
     let mut page = PAGE.to_string();
     for (name, part) in parts {
@@ -38,7 +37,7 @@ fn report(scene: &Scene) -> String {
 }
 
 /// What the page's script replays, as JSON of numbers and colours alone.
-fn data(scene: &Scene) -> String {
+fn data(scene: &Scene) -> Result<String, Refusal> {
     let (p, grid) = (&scene.job.params, &scene.plan.grid);
     let (step, colours) = picture::steps(p.max_engagement_deg);
     let colours: Vec<String> = colours.iter().map(|c| format!("\"{c}\"")).collect();
@@ -56,33 +55,82 @@ fn data(scene: &Scene) -> String {
         ("colours", list(colours)),
         ("loops", list(loops)),
         ("stock", runs(stock)),
-        ("rows", rows(scene)),
+        ("rows", rows(scene)?),
     ];
-    object(fields)
+    Ok(object(fields))
 }
 
-fn rows(scene: &Scene) -> String {
-    list(scene.plan.chunks().zip(replay::rows(scene)).map(|(chunk, done)| row(&chunk, done)))
+fn rows(scene: &Scene) -> Result<String, Refusal> {
+    let mut replay = Replay::new(scene);
+    let rows: Result<Vec<String>, Refusal> = scene.plan.chunks().map(|chunk| replay.row(&chunk)).collect();
+    Ok(list(rows?))
 }
 
-fn row(chunk: &Chunk, done: Row) -> String {
-    let (kind, points) = match chunk {
-        Chunk::Helix { center, radius } => (1, vec![triple(*center, *radius)]),
-        Chunk::Plunge(to) => (2, vec![triple(*to, 0.0)]),
-        Chunk::Link(to) => (3, vec![triple(*to, 0.0)]),
-        Chunk::Cut(cuts) => (4, cuts.iter().map(|c| triple(c.at, c.angle)).collect()),
-    };
-    let place = |at: Option<Point>| at.map_or("null".into(), spot);
-    let contact = done.contact.map_or("null".into(), |c| format!("[{},{}]", c.hits(), c.samples()));
-    object([
-        ("kind", kind.to_string()),
-        ("from", place(done.from)),
-        ("to", place(done.to)),
-        ("points", list(points)),
-        ("contact", contact),
-        ("removed", done.cells.len().to_string()),
-        ("cells", runs(done.cells)),
-    ])
+/// The map and the tool's place between two rows.
+struct Replay {
+    map: Map,
+    log: Log,
+    radius: f64,
+    samples: usize,
+    place: Option<Point>,
+}
+
+impl Replay {
+    fn new(scene: &Scene) -> Replay {
+        let (map, params) = (scene.start.clone(), &scene.job.params);
+        let log = Log::of(&map);
+        Replay { map, log, radius: params.tool_diameter / 2.0, samples: params.samples(), place: None }
+    }
+
+    fn row(&mut self, chunk: &Chunk) -> Result<String, Refusal> {
+        let cells = self.clear(chunk)?;
+        let (kind, points) = match chunk {
+            Chunk::Helix { center, radius } => (1, vec![triple(*center, *radius)]),
+            Chunk::Plunge(to) => (2, vec![triple(*to, 0.0)]),
+            Chunk::Link(to) => (3, vec![triple(*to, 0.0)]),
+            Chunk::Cut(cuts) => (4, cuts.iter().map(|c| triple(c.at, c.angle)).collect()),
+        };
+        let contact = chunk.contact(self.samples);
+        let from = self.place.map_or("null".into(), spot);
+        self.place = chunk.end().or(self.place);
+        let to = self.place.map_or("null".into(), spot);
+        Ok(object([
+            ("kind", kind.to_string()),
+            ("from", from),
+            ("to", to),
+            ("points", list(points)),
+            ("contact", contact.map_or("null".into(), |c| format!("[{},{}]", c.hits(), c.samples()))),
+            ("removed", cells.len().to_string()),
+            ("cells", runs(cells)),
+        ]))
+    }
+
+    /// Clears what a row clears; the numbers of these cells, in order.
+    fn clear(&mut self, chunk: &Chunk) -> Result<Vec<usize>, Refusal> {
+        match chunk {
+            Chunk::Helix { center, radius } => self.bore(*center, radius + self.radius),
+            Chunk::Cut(cuts) => self.cut(cuts),
+            Chunk::Plunge(_) | Chunk::Link(_) => Ok(Vec::new()),
+        }
+    }
+
+    fn bore(&mut self, center: Point, radius: f64) -> Result<Vec<usize>, Refusal> {
+        let before = self.map.bytes.clone();
+        self.map.clear_disk(center, radius)?;
+        let changed = before.iter().zip(&self.map.bytes).enumerate().filter(|(_, (was, is))| was != is);
+        Ok(changed.map(|(k, _)| k).collect())
+    }
+
+    fn cut(&mut self, cuts: &[Cut]) -> Result<Vec<usize>, Refusal> {
+        let mut cells = Vec::new();
+        for step in cuts.windows(2) {
+            self.log.used = 0;
+            self.map.clear_crescent(step[0].at, step[1].at, self.radius, &mut self.log)?;
+            cells.extend(self.log.cells().iter().map(|&k| k as usize));
+        }
+        cells.sort_unstable();
+        Ok(cells)
+    }
 }
 
 /// Cells in order, as runs: the gap behind the run before, and how many.

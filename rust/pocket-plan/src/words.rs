@@ -1,5 +1,4 @@
 //! Numbers and a report in words.
-use crate::replay;
 use crate::scene::Scene;
 
 /// A whole number, its thousands parted.
@@ -71,7 +70,7 @@ pub fn facts(scene: &Scene) -> Vec<(&'static str, String)> {
 fn contact(scene: &Scene) -> String {
     let (most, limit) = (scene.plan.report.planned_max_engagement_deg, scene.job.params.max_engagement_deg);
     let degrees = format!("at most {} of {limit} degrees", decimal(most, 2));
-    match replay::greatest(scene) {
+    match scene.plan.greatest_contact(scene.job.params.samples()) {
         Some(c) => format!("{degrees}: {} of {} rim points", count(c.hits()), count(c.samples())),
         None => degrees,
     }

@@ -1,7 +1,7 @@
 //! What the command writes is well formed, and says what the plan says.
-use pocket::Chunk;
+use pocket::{Chunk, Contact, Cut, Log, Map};
 use pocket_plan::scene::Scene;
-use pocket_plan::{file, image, list, picture, replay, words};
+use pocket_plan::{file, image, list, picture, words};
 use std::fs;
 use std::path::Path;
 use std::sync::LazyLock;
@@ -18,21 +18,41 @@ static SMALL: LazyLock<Scene> = LazyLock::new(|| {
     scene("<a & \"b\">\u{1}.job", &fs::read_to_string(path).unwrap())
 });
 
-/// Where a cut's angle is greatest, the replay counts the contact that it lists.
-#[test]
-fn contact_is_counted_as_it_is_listed() {
-    let rows = replay::rows(&SMALL);
-    assert_eq!(rows.len(), SMALL.plan.rows.len());
-    for (chunk, row) in SMALL.plan.chunks().zip(&rows) {
-        let listed = match chunk {
-            Chunk::Cut(cuts) => cuts.iter().skip(1).map(|cut| cut.angle).max_by(f64::total_cmp),
-            _ => None,
-        };
-        assert_eq!(row.contact.map(|contact| contact.angle()), listed);
+/// The greatest hits of a cut, counted by the leaf on the map just before each point; each is the one that is listed.
+fn counted(map: &mut Map, log: &mut Log, cuts: &[Cut]) -> Option<usize> {
+    let p = &SMALL.job.params;
+    let (r, samples) = (p.tool_diameter / 2.0, p.samples());
+    let mut most = None;
+    for step in cuts.windows(2) {
+        let contact = map.contact(step[1].at, r + 0.25 * p.cell(), samples).unwrap();
+        assert_eq!(Contact::of_angle(step[1].angle, samples), Some(contact));
+        most = most.max(Some(contact.hits()));
+        log.used = 0;
+        map.clear_crescent(step[0].at, step[1].at, r, log).unwrap();
     }
-    let most = replay::greatest(&SMALL).unwrap();
-    assert_eq!(most.angle().to_degrees(), SMALL.plan.report.planned_max_engagement_deg);
-    let told = format!(": {} of {} rim points", most.hits(), most.samples());
+    most
+}
+
+#[test]
+fn contact_is_told_as_the_leaf_counts_it() {
+    let p = &SMALL.job.params;
+    let mut map = SMALL.start.clone();
+    let mut log = Log::of(&map);
+    let mut all = None;
+    for chunk in SMALL.plan.chunks() {
+        let most = match &chunk {
+            Chunk::Cut(cuts) => counted(&mut map, &mut log, cuts),
+            Chunk::Helix { center, radius } => {
+                map.clear_disk(*center, radius + p.tool_diameter / 2.0).unwrap();
+                None
+            }
+            Chunk::Plunge(_) | Chunk::Link(_) => None,
+        };
+        assert_eq!(chunk.contact(p.samples()).map(|contact| contact.hits()), most);
+        all = all.max(most);
+    }
+    assert_eq!(map.bytes, SMALL.plan.map);
+    let told = format!(": {} of {} rim points", all.unwrap(), p.samples());
     assert!(words::report(&SMALL).contains(&told), "{told}");
 }
 

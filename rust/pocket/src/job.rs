@@ -62,12 +62,10 @@ impl Params {
         self.resolution.unwrap_or(self.tool_diameter / 80.0)
     }
 
-    /// How a plan counts contact: at a radius wider by a quarter of a cell, by a sample for each half cell of the
-    /// tool's rim, 64 to 2,048 of them.
-    pub fn rim(&self) -> (f64, usize) {
-        let (r, cell) = (self.tool_diameter / 2.0, self.cell());
-        let samples = (4.0 * PI * r / cell).ceil() as usize;
-        (r + 0.25 * cell, samples.clamp(64, 2048))
+    /// How many samples of the rim a plan's contacts have: one for each half cell, 64 to 2,048.
+    pub fn samples(&self) -> usize {
+        let rim = 4.0 * PI * (self.tool_diameter / 2.0) / self.cell();
+        (rim.ceil() as usize).clamp(64, 2048)
     }
 }
 

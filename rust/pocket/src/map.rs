@@ -44,6 +44,13 @@ pub struct Contact {
 }
 
 impl Contact {
+    /// The contact of so many samples that an angle stands for; none where no contact has that angle.
+    pub fn of_angle(angle: f64, samples: usize) -> Option<Contact> {
+        linked::contact_angle(0, samples).ok()?;
+        let hits = (0..=samples).find(|hits| linked::contact_angle(*hits, samples) == Ok(angle))?;
+        Some(Contact { hits, samples })
+    }
+
     pub fn hits(&self) -> usize {
         self.hits
     }

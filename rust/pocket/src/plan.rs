@@ -1,6 +1,7 @@
 //! A job planned: what is lent, and what the plan is.
 use crate::job::{Job, Lent, Point, RawJob};
 use crate::linked::{self, Slices};
+use crate::map::Contact;
 use crate::refusal::Refusal;
 
 /// A raster. Cell (i, j), column i and row j, has number j * nx + i; `origin` is the lower left corner of cell (0, 0).
@@ -72,6 +73,13 @@ impl Chunk {
             Chunk::Cut(cuts) => cuts.last().map(|cut| cut.at),
         }
     }
+
+    /// The greatest contact of a cut, of so many samples; none of other chunks, nor where nothing was measured.
+    pub fn contact(&self, samples: usize) -> Option<Contact> {
+        let Chunk::Cut(cuts) = self else { return None };
+        let angle = cuts.iter().skip(1).map(|cut| cut.angle).max_by(f64::total_cmp)?;
+        Contact::of_angle(angle, samples)
+    }
 }
 
 #[derive(Clone, Debug, PartialEq)]
@@ -99,6 +107,11 @@ impl Plan {
                 _ => Chunk::Cut(triples.iter().map(cut).collect()),
             }
         })
+    }
+
+    /// The greatest contact of all cuts, of so many samples; none where nothing was measured.
+    pub fn greatest_contact(&self, samples: usize) -> Option<Contact> {
+        self.chunks().filter_map(|chunk| chunk.contact(samples)).max_by_key(Contact::hits)
     }
 }
 

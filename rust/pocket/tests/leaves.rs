@@ -1,5 +1,5 @@
 //! The leaves' refusals, at and beside each limit; what is refused changes nothing.
-use pocket::{Grid, Log, Map, Point, Refusal, cos, linked, narrow, sin, sqrt, wanted};
+use pocket::{Contact, Grid, Log, Map, Point, Refusal, cos, linked, narrow, sin, sqrt, wanted};
 use std::f64::consts::TAU;
 
 const GRID: Grid = Grid { origin: Point::new(0.0, 0.0), cell: 1.0, nx: 5, ny: 5 };
@@ -128,8 +128,12 @@ fn an_angle_of_8_to_4_096_samples_and_no_more_hits() {
         for hits in [0, 1, samples / 2, samples] {
             let angle = TAU * hits as f64 / samples as f64;
             assert_eq!(linked::contact_angle(hits, samples), Ok(angle));
+            let contact = Contact::of_angle(angle, samples).unwrap();
+            assert_eq!((contact.hits(), contact.samples(), contact.angle()), (hits, samples, angle));
+            assert_eq!(Contact::of_angle(angle.next_up(), samples), None);
         }
     }
+    assert_eq!([7, 4097, usize::MAX].map(|samples| Contact::of_angle(0.0, samples)), [None; 3]);
 }
 
 #[test]
