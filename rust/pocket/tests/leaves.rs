@@ -136,6 +136,15 @@ fn an_angle_of_8_to_4_096_samples_and_no_more_hits() {
     assert_eq!([7, 4097, usize::MAX].map(|samples| Contact::of_angle(0.0, samples)), [None; 3]);
 }
 
+/// Every contact there is: an angle tells its hits.
+#[test]
+fn angles_rise_with_the_hits() {
+    for samples in 8..=4096 {
+        let angles = (0..=samples).map(|hits| linked::contact_angle(hits, samples).unwrap());
+        assert!(angles.is_sorted_by(|a, b| a < b), "{samples}");
+    }
+}
+
 #[test]
 fn sides_to_4_096_and_cells_to_1_048_576() {
     for (nx, ny, expected) in [
