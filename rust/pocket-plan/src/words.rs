@@ -69,11 +69,14 @@ pub fn facts(scene: &Scene) -> Vec<(&'static str, String)> {
 /// The greatest contact, as its angle and as points of the rim.
 fn contact(scene: &Scene) -> String {
     let (most, limit) = (scene.plan.report.planned_max_engagement_deg, scene.job.params.max_engagement_deg);
-    let degrees = format!("at most {} of {limit} degrees", decimal(most, 2));
-    match scene.plan.greatest_contact(scene.job.params.samples()) {
-        Some(c) => format!("{degrees}: {} of {} rim points", count(c.hits()), count(c.samples())),
-        None => degrees,
-    }
+    let points = rim_points(scene).map_or(String::new(), |points| format!(": {points}"));
+    format!("at most {} of {limit} degrees{points}", decimal(most, 2))
+}
+
+/// The points of the rim that the greatest contact hits, of those sampled; none where nothing was measured.
+pub fn rim_points(scene: &Scene) -> Option<String> {
+    let contact = scene.plan.greatest_contact(scene.job.params.samples())?;
+    Some(format!("{} of {} rim points", count(contact.hits()), count(contact.samples())))
 }
 
 /// What the tool does in a layer.

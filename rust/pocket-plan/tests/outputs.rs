@@ -224,6 +224,7 @@ fn the_picture_shows_each_part() {
     let count = |class: &str| svg.matches(&format!("class=\"{class}\"")).count();
     let (r, legend) = (&SMALL.plan.report, 1);
     assert_eq!(count("helix"), r.helix_entries + legend);
+    assert!(svg.contains(&words::rim_points(&SMALL).unwrap()));
     assert_eq!(count("disk"), r.helix_entries + legend);
     assert_eq!(count("plunge"), r.retracts + legend);
     assert_eq!(count("island"), SMALL.pocket.islands.len() + legend);

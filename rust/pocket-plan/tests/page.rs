@@ -41,12 +41,12 @@ fn word(chunk: &Chunk) -> &'static str {
     }
 }
 
-/// The greatest contact of a row, as the page writes it; its hits by the angle that is listed.
-fn contact(chunk: &Chunk, samples: usize) -> String {
-    let Chunk::Cut(cuts) = chunk else { return "\u{2013}".into() };
+/// The greatest contact of a row, as the page writes it: its angle, and its hits by that angle.
+fn contact(chunk: &Chunk, samples: usize) -> [String; 2] {
+    let Chunk::Cut(cuts) = chunk else { return ["\u{2013}", "\u{2013}"].map(String::from) };
     let greatest = cuts.iter().map(|cut| cut.angle).fold(0.0, f64::max);
     let hits = (greatest / TAU * samples as f64).round();
-    format!("{:.1}\u{b0}, {hits} of {samples} rim points", greatest.to_degrees())
+    [format!("{:.1}\u{b0}", greatest.to_degrees()), format!("{hits} of {samples}")]
 }
 
 fn points(chunk: &Chunk) -> usize {
@@ -109,7 +109,7 @@ fn is_driven() {
         page.at(k + 1);
         assert_eq!(page.text("kind"), word(chunk));
         assert_eq!(page.text("points"), points(chunk).to_string());
-        assert_eq!(page.text("contact"), contact(chunk, samples));
+        assert_eq!([page.text("contact"), page.text("hits")], contact(chunk, samples));
     }
 
     // The end is the map that was handed back.

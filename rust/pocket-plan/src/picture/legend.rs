@@ -2,11 +2,11 @@
 use super::Drawing;
 use super::paper::{short, text};
 use super::scale::Scale;
-use crate::words::{count, decimal};
+use crate::words::{self, count, decimal};
 use std::fmt::Write;
 
 /// The least height of a picture, for the legend to fit.
-pub const HEIGHT: f64 = 650.0;
+pub const HEIGHT: f64 = 668.0;
 
 /// The bar of colours.
 const TOP: f64 = 116.0;
@@ -60,13 +60,15 @@ impl Drawing<'_> {
         let (scale, greatest) = (&self.scale, self.scene.plan.report.planned_max_engagement_deg);
         let below = TOP + BAR + 22.0;
         let told = format!("greatest planned {}", decimal(greatest, 1));
+        let points = words::rim_points(self.scene);
         let parts = [
             text("start", [x, TOP - 26.0], "Contact of a pass (degrees)"),
             bar(scale, x),
             degrees(scale, x + WIDTH),
             arrow(x, height(scale, greatest)),
             arrow(x, below) + &text("start", [x + 6.0, below + 4.0], &told),
-            self.signs(x, below + 34.0),
+            points.map_or(String::new(), |points| text("start", [x + 6.0, below + 22.0], &points)),
+            self.signs(x, below + 52.0),
         ];
         self.put(parts.join("\n"));
     }
