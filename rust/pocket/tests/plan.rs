@@ -42,6 +42,8 @@ fn sound(job: &Job) -> pocket::Plan {
         }] += 1;
     }
     assert_eq!(kinds, [r.helix_entries, r.retracts, r.links, r.passes]);
+    let contact = plan.greatest_contact(job.params.samples());
+    assert_eq!(contact.map_or(0.0, |contact| contact.angle()), greatest);
     assert_eq!(greatest * 180.0 / PI, r.planned_max_engagement_deg);
     assert!(greatest * 180.0 / PI < limit);
     plan
@@ -69,6 +71,13 @@ fn a_job_with_a_stock_list() {
     assert_eq!(plan.report.starting_cells, 7_000);
     let empty = sound(&Job { stock: Some(Vec::new()), ..small() });
     assert_eq!((empty.report.starting_cells, empty.rows.len()), (0, 0));
+}
+
+#[test]
+fn a_sample_for_each_half_cell_of_the_rim() {
+    let samples = |resolution| Params { resolution, ..Params::default() }.samples();
+    let cells = [Some(0.1), None, Some(0.01842), Some(0.0184), Some(0.006)];
+    assert_eq!(cells.map(samples), [377, 503, 2047, 2048, 2048]);
 }
 
 fn refused(answer: Result<pocket::Plan, Refusal>) -> u32 {
