@@ -9,15 +9,11 @@ use Rattle.geom.specs.Region.{Held}
 use Rattle.geom.specs.declared.vec2.Vec2.{Vec2}
 use Rattle.geom.specs.declared.region.Region.{Region}
 use Rattle.raster.specs.Grid.{Over}
-use Rattle.raster.specs.Contact.{Rim}
 use Rattle.raster.specs.declared.grid.Grid.{Grid}
 use Rattle.setup.specs.Place.{Walls, allowedAt, contactAt}
 use Rattle.setup.specs.declared.Setup.{Setup}
 use Rattle.links.specs.Straight.{clearAt, sampleClear, samplesClear, linkClear}
 use Rattle.abi.specs.Setup.{placed, plain}
-
-pub rim-at : {n m : ℕ} {w : List Float} → n ≡ m → Rim n w → Rim m w
-rim-at {w = w} e r = subst (λ (k : ℕ). Rim k w) e r
 
 module _ (s : Setup) (g : Grid) (region : Region) (r keep : Float) (samples : ℕ) (e : s ≡ placed g region r keep samples (s .bound)) where
   pub walls-of : (wall vs : List Float) (lens : List ℕ) → Bounds keep (s .bound) → Over g (length wall) → Held vs lens region → Walls s wall vs lens

@@ -1,18 +1,17 @@
 -- The first no of document 01's questions, and what it says where there is none: numbers, sides, a map. Assumes nothing.
-use mathlib.Core.Path.{_≡_, refl, ap, _∙_, subst}
+use mathlib.Core.Path.{_≡_, refl, ap, _∙_}
 use mathlib.Core.Bool.{Bool, true, false, _&&_}
 use mathlib.Core.List.{List}
 use Prim.Native.Nat.{ℕ, _-_, _*_, _≤_, _<_}
 use native.Mathlib.Omega.{arith}
 use lib.ListN.{take, drop}
 use lib.Dec.{leb}
-use lib.Ieee.{Float}
 use borrow.Author.Tests.{leb-true, le-leb, lt-leb}
 use Rattle.loops.proofs.Cases.{both}
 use Rattle.distance.specs.Least.{MapSides}
 use Rattle.geom.specs.declared.vec2.Vec2.{Vec2}
 use Rattle.raster.specs.Grid.{Sides, Over}
-use Rattle.raster.specs.Contact.{samplesOf, Rim}
+use Rattle.raster.specs.Contact.{samplesOf}
 use Rattle.raster.specs.declared.grid.Grid.{Grid}
 use Rattle.raster.proofs.GridLaws.{few-cells}
 use Rattle.pocket.specs.Ranges.{pointFit, gridFit, sidesFit}
@@ -115,6 +114,3 @@ front n m = ap (λ (k : ℕ). take k m) (let z : n - 0 ≡ n = omega arith in z)
 pub samples-few : (a b : Bool) (n k : ℕ) → a && (b && leb n 4096) ≡ true → k ≡ samplesOf n → 2 * k ≤ 8192
 unfolding samplesOf
 samples-few a b n k h e = omega (arith, leb-true n 4096 (both b (leb n 4096) (both a (b && leb n 4096) h .1) .1))
-
-pub rim-at : {n k : ℕ} {w : List Float} → n ≡ k → Rim n w → Rim k w
-rim-at {w = w} e h = subst (λ (i : ℕ). Rim i w) e h

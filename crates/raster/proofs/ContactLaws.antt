@@ -74,6 +74,10 @@ unfolding rimmed
 rim-is n w v h e =
     subst (Rim n) (sym e) (record { long = omega (arith, rim-long n 0 n w); x = filled n n w h .x; y = filled n n w h .y })
 
+-- the table of as many samples
+pub rim-same : {n k : ℕ} {w : List Float} → n ≡ k → Rim n w → Rim k w
+rim-same {w = w} e h = subst (λ (i : ℕ). Rim i w) e h
+
 pub put-is : (n k : ℕ) (w : List Float) (u : Vec2) → u ≡ directionAt n k → set (set w (2 * k) (u .x)) (2 * k + 1) (u .y) ≡ putRim n k w
 unfolding putRim putPoint
 put-is n k w u e = ap (λ (d : Vec2). set (set w (2 * k) (d .x)) (2 * k + 1) (d .y)) e

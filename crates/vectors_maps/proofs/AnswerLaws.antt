@@ -17,7 +17,7 @@ use Rattle.geom.specs.Vec.{f0}
 use Rattle.geom.specs.Region.{startOf, vertexCount, Held}
 use Rattle.geom.specs.declared.vec2.Vec2.{Vec2}
 use Rattle.raster.specs.Log.{Stock, st, Ready, Logged, clearAfter, undone, passes}
-use Rattle.raster.specs.Contact.{rimContact, angleOf, Rim}
+use Rattle.raster.specs.Contact.{rimContact, angleOf}
 use Rattle.raster.specs.Fill.{fillRegion}
 use Rattle.raster.specs.declared.contact.Contact as counted
 use Rattle.raster.specs.declared.grid.Grid.{Grid}
@@ -55,9 +55,6 @@ squares-agree s m w nx ny h k em ew eh ek t =
     }
 
 -- ---- contact
-
-pub rim-same : (n k : ℕ) (w : List Float) → n ≡ k → Rim n w → Rim k w
-rim-same n k w e h = subst (λ (i : ℕ). Rim i w) e h
 
 pub contact-agrees : (s m : List ℕ) (nx ny b : ℕ) (g : Grid) (p : Vec2) (r a : Float) (c : counted.Contact) → m ≡ mapOf s nx ny → g ≡ gridOf s nx ny → p ≡ pointAt s 8
     → r ≡ floatAt s 10 → c ≡ rimContact g m p r (getD s 11 0) → a ≡ angleOf c → b ≡ toBits binary64 a → b ≡ getD s 12 0 → Contact s nx ny

@@ -1,7 +1,7 @@
 -- `abi::of_raster::raster_engagement` meets its contract. Assumes nothing.
 use mathlib.Core.Path.{ap, _∙_}
 use Rattle.raster.specs.Contact.{angleOf}
-use Rattle.abi.proofs.SetupLaws.{rim-at}
+use Rattle.raster.proofs.ContactLaws.{rim-same}
 use borrow.Author.Needs.{needs}
 use Rattle.abi.proofs.of_raster.raster_engagement.Statement.{statement}
 use Rattle.abi.proofs.of_raster.raster_engagement.Tie as tie
@@ -13,7 +13,7 @@ fill-rim-requires : tie.Need-fill-rim-requires
 fill-rim-requires c κs = search needs
 
 rim-contact-requires : tie.Need-rim-contact-requires
-rim-contact-requires c κs = (c .before .before .before .before .before .before .before .before .pre .0, rim-at (c .before .before .before .before .samples-of .ensures) (c .before .before .before .fill-rim .ensures .1))
+rim-contact-requires c κs = (c .before .before .before .before .before .before .before .before .pre .0, rim-same (c .before .before .before .before .samples-of .ensures) (c .before .before .before .fill-rim .ensures .1))
 
 angle-of-requires : tie.Need-angle-of-requires
 angle-of-requires c κs = search needs

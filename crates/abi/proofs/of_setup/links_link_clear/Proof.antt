@@ -1,7 +1,8 @@
 -- `abi::of_setup::links_link_clear` meets its contract. Assumes nothing.
 use mathlib.Core.Path.{sym, ap, _∙_}
 use Rattle.raster.specs.Contact.{samplesOf}
-use Rattle.abi.proofs.SetupLaws.{rim-at, walls-of, over-grid, same-samples, link-plain}
+use Rattle.raster.proofs.ContactLaws.{rim-same}
+use Rattle.abi.proofs.SetupLaws.{walls-of, over-grid, same-samples, link-plain}
 use borrow.Author.Needs.{needs}
 use Rattle.abi.proofs.of_setup.links_link_clear.Statement.{statement}
 use Rattle.abi.proofs.of_setup.links_link_clear.Tie as tie
@@ -20,7 +21,7 @@ link-clear-requires c κs =
     let s = c .before .before .before .before .before .before .before .before .before .before .before .before in
     let m = c .before .before .before .before .before .before .made in
     let n = c .before .before .before .before .samples-of .ensures in
-    (walls-of _ _ _ _ _ _ (m .ensures .0) _ _ _ (m .ensures .1) (s .pre .0) (s .pre .1 .0), (over-grid _ _ _ _ _ _ (m .ensures .0) _ (s .pre .1 .1 .0), rim-at (n ∙ ap samplesOf (sym (same-samples _ _ _ _ _ _ (m .ensures .0)))) (c .before .before .before .fill-rim .ensures .1)))
+    (walls-of _ _ _ _ _ _ (m .ensures .0) _ _ _ (m .ensures .1) (s .pre .0) (s .pre .1 .0), (over-grid _ _ _ _ _ _ (m .ensures .0) _ (s .pre .1 .1 .0), rim-same (n ∙ ap samplesOf (sym (same-samples _ _ _ _ _ _ (m .ensures .0)))) (c .before .before .before .fill-rim .ensures .1)))
 
 same-length : tie.Need-same-length
 same-length c = search needs

@@ -2,8 +2,9 @@
 use mathlib.Core.Path.{refl, sym, ap, _∙_}
 use borrow.Author.Needs.{needs}
 use Rattle.pocket.specs.declared.answers.Rim.the-variants.{Refused, Of}
+use Rattle.raster.proofs.ContactLaws.{rim-same}
 use Rattle.pocket.specs.Leaves.{contactOf}
-use Rattle.pocket.proofs.AskedLaws.{both-are, map-by, map-none, map-over, samples-few, rim-at}
+use Rattle.pocket.proofs.AskedLaws.{both-are, map-by, map-none, map-over, samples-few}
 use Rattle.pocket.proofs.LeafLaws.{is-refused, is-answered}
 use Rattle.pocket.proofs.rim.contact.Statement.{statement}
 use Rattle.pocket.proofs.rim.contact.Tie as tie
@@ -34,7 +35,7 @@ slice-aggregate-rim-contact : tie.Need-slice-aggregate-rim-contact
 slice-aggregate-rim-contact c = search needs
 
 rim-contact-requires : tie.Need-rim-contact-requires
-rim-contact-requires c κs = (map-over _ _ _ (sym (c .before .before .before .before .before .before .map-refusal .ensures) ∙ c .before .before .before .before .before .if1 .left), rim-at (c .before .before .before .samples-of .ensures) (c .before .before .fill-rim .ensures .1))
+rim-contact-requires c κs = (map-over _ _ _ (sym (c .before .before .before .before .before .before .map-refusal .ensures) ∙ c .before .before .before .before .before .if1 .left), rim-same (c .before .before .before .samples-of .ensures) (c .before .before .fill-rim .ensures .1))
 
 returns-2 : tie.Need-returns-2
 unfolding contactOf

@@ -1,8 +1,6 @@
 -- `raster::contact::rim_contact` meets its contract. Assumes nothing.
-use mathlib.Core.Path.{sym, subst}
-use Prim.Native.Nat.{ℕ}
-use Rattle.raster.specs.Contact.{Rim}
-use Rattle.raster.proofs.ContactLaws.{contact-is}
+use mathlib.Core.Path.{sym}
+use Rattle.raster.proofs.ContactLaws.{rim-same, contact-is}
 use borrow.Author.Needs.{needs}
 use Rattle.raster.proofs.contact.rim_contact.Statement.{statement}
 use Rattle.raster.proofs.contact.rim_contact.Tie as tie
@@ -11,7 +9,7 @@ samples-of-requires : tie.Need-samples-of-requires
 samples-of-requires c κs = search needs
 
 hits-requires : tie.Need-hits-requires
-hits-requires c κs = (c .before .before .before .pre .0, subst (λ (n : ℕ). Rim n (c .before .before .before .args .rim .now)) (sym (c .samples-of .ensures)) (c .before .before .before .pre .1))
+hits-requires c κs = (c .before .before .before .pre .0, rim-same (sym (c .samples-of .ensures)) (c .before .before .before .pre .1))
 
 returns : tie.Need-returns
 returns c = contact-is _ _ _ _ _ _ _ (c .before .samples-of .ensures) (c .hits .ensures)

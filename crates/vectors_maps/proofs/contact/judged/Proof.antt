@@ -2,7 +2,8 @@
 use mathlib.Core.Path.{refl}
 use native.Mathlib.Omega.{arith}
 use Rattle.vectors_maps.proofs.MapLaws.{few, over-made, rim-room}
-use Rattle.vectors_maps.proofs.AnswerLaws.{not-bad, not-differs, rim-same, contact-agrees}
+use Rattle.raster.proofs.ContactLaws.{rim-same}
+use Rattle.vectors_maps.proofs.AnswerLaws.{not-bad, not-differs, contact-agrees}
 use borrow.Author.Needs.{needs}
 use Rattle.vectors_maps.proofs.contact.judged.Statement.{statement}
 use Rattle.vectors_maps.proofs.contact.judged.Tie as tie
@@ -59,7 +60,7 @@ slice-aggregate-rim-contact-2 : tie.Need-slice-aggregate-rim-contact-2
 slice-aggregate-rim-contact-2 c = search needs
 
 rim-contact-requires : tie.Need-rim-contact-requires
-rim-contact-requires c κs = (over-made _ _ _ _ _ _ _ _ _ (c .before .before .before .before .before .before .before .before .before .before .before .before .before .before .before .before .before .before .pre) (c .before .before .before .before .before .grid .ensures) (c .before .before .before .before .before .before .before .before .before .before .before .make .ensures) refl, rim-same _ _ _ (c .before .before .before .before .before .before .before .before .samples-of .ensures) (c .before .before .before .before .before .before .before .fill-rim .ensures .1))
+rim-contact-requires c κs = (over-made _ _ _ _ _ _ _ _ _ (c .before .before .before .before .before .before .before .before .before .before .before .before .before .before .before .before .before .before .pre) (c .before .before .before .before .before .grid .ensures) (c .before .before .before .before .before .before .before .before .before .before .before .make .ensures) refl, rim-same (c .before .before .before .before .before .before .before .before .samples-of .ensures) (c .before .before .before .before .before .before .before .fill-rim .ensures .1))
 
 angle-of-requires : tie.Need-angle-of-requires
 angle-of-requires c κs = search needs
