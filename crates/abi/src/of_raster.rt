@@ -119,7 +119,7 @@ pub extern "C" fn raster_disk_row(
         nx,
         ny,
     };
-    pack_span(raster::disk::disk_row(g, Vec2 { x, y }, r, j))
+    pack_span(raster::disk::chord(g, Vec2 { x, y }, r * r, j))
 }
 
 fn pack_span(s: Span) -> u64
@@ -207,7 +207,7 @@ pub extern "C" fn raster_clear_disk(
         nx,
         ny,
     };
-    raster::stock::clear_disk(g, map, Vec2 { x, y }, r)
+    raster::clear::clear_disk(g, map, Vec2 { x, y }, r)
 }
 
 #[no_mangle]
@@ -233,6 +233,32 @@ pub extern "C" fn raster_count_disk(
         ny,
     };
     raster::stock::count_disk(g, map, Vec2 { x, y }, r)
+}
+
+// The same count by its plain form.
+#[no_mangle]
+pub extern "C" fn plain_count_disk(
+    ox: f64,
+    oy: f64,
+    cell: f64,
+    nx: usize,
+    ny: usize,
+    map: &[u8],
+    x: f64,
+    y: f64,
+    r: f64,
+) -> usize
+    requires { ⌜ Over (grid ox oy cell nx ny) (length (now map)) ⌝ }
+    ensures { λ n. ⌜ n ≡ countDisk (grid ox oy cell nx ny) (v2 x y) r (now (map .entry)) ⌝ }
+{
+    let origin = Vec2 { x: ox, y: oy };
+    let g = Grid {
+        origin,
+        cell,
+        nx,
+        ny,
+    };
+    plain::count_disk(g, map, Vec2 { x, y }, r)
 }
 
 #[no_mangle]

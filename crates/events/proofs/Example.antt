@@ -17,7 +17,7 @@ use Rattle.numbers.specs.Small.{f1, f2}
 use Rattle.geom.specs.Vec.{v2, f0, sum}
 use Rattle.geom.specs.declared.vec2.Vec2.{Vec2}
 use Rattle.raster.specs.Contact.{angleOf}
-use Rattle.raster.specs.Disk.{rowY, cellAt, firstFrom, colsOf, diskRow, lastRow, rowsOf, leftOf, rightOf, less, crescentRow}
+use Rattle.raster.specs.Disk.{rowY, cellAt, firstFrom, colsOf, chordOf, diskRow, lastRow, rowsOf, leftOf, rightOf, less, crescentRow}
 use Rattle.raster.specs.Sweep.{overSpan, diskAt, overDisk, crescentAt, overCrescent}
 use Rattle.raster.specs.Stock.{dropCell, clearDisk}
 use Rattle.raster.specs.Log.{clearCell, clearAfter, undone, redone, passes}
@@ -71,7 +71,7 @@ fit = record { guard = refl; small = lit≤ tt }
 
 pub legal : Legal job events
 unfolding ofBits toBits round rootOf ofInt toUnsigned neg add sub mul div lt le eq isNan turns loop turn any ones floorOf ceilOf maxOf isFinite sum rowY cellAt
-    firstFrom colsOf diskRow lastRow rowsOf leftOf rightOf less crescentRow overSpan diskAt overDisk crescentAt overCrescent dropCell clearDisk clearCell
+    firstFrom colsOf chordOf diskRow lastRow rowsOf leftOf rightOf less crescentRow overSpan diskAt overDisk crescentAt overCrescent dropCell clearDisk clearCell
     clearAfter undone redone passes angleOf helixEnd rimBlocked shrink shrunk radiusOf begin cutsFrom cutsOf step
 legal = (
   record { idle = refl; widest = neg f1; found = refl; radius = refl },
@@ -118,6 +118,6 @@ pub record Counts : Type 0 where
 
 pub counts : Counts
 unfolding ofBits toBits round rootOf ofInt toUnsigned neg add sub mul div lt le eq isNan turns loop ones floorOf ceilOf maxOf isFinite sum rowY cellAt
-    firstFrom colsOf diskRow lastRow rowsOf leftOf rightOf less crescentRow overSpan diskAt overDisk crescentAt overCrescent dropCell clearDisk clearCell
+    firstFrom colsOf chordOf diskRow lastRow rowsOf leftOf rightOf less crescentRow overSpan diskAt overDisk crescentAt overCrescent dropCell clearDisk clearCell
     clearAfter undone redone passes helixEnd begin cutsFrom cutsOf step steps after
 counts = record { withdrawn-leaves = refl; kept-leaves = refl; listed = refl }

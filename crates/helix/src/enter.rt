@@ -76,7 +76,7 @@ fn bore(
     }
     let g = s.grid;
     let n = s.grid.ny * s.grid.nx;
-    raster::stock::clear_disk(g, &mut b[0..n], c, radius + s.r);
+    raster::clear::clear_disk(g, &mut b[0..n], c, radius + s.r);
     put_triple(triples, first, c, radius);
     put_row(rows, row, 1, first as u32, 1);
     Entered::Bored(

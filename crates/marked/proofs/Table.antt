@@ -11,7 +11,7 @@ use Rattle.numbers.specs.Order.{maxOf, isFinite, rankOf, totalOf}
 use Rattle.geom.specs.Vec.{sum, difference, scaled, fromAngle}
 use Rattle.geom.specs.Region.{vertexOf, straddlesOf, crossingOf, startOf, crossed, loopCrossings, crossingsIn, crossingsOf}
 use Rattle.raster.specs.Grid.{reachOf, spansOf, fitOf, gridOf, sizedOf, newGrid, onGrid, cellOf, stockAt}
-use Rattle.raster.specs.Disk.{rowY, cellAt, firstFrom, colsOf, diskRow, lastRow, rowsOf, leftOf, rightOf, less, crescentRow}
+use Rattle.raster.specs.Disk.{rowY, cellAt, firstFrom, colsOf, chordOf, diskRow, lastRow, rowsOf, leftOf, rightOf, less, crescentRow}
 use Rattle.raster.specs.Sweep.{overSpan, diskAt, overDisk, crescentAt, overCrescent}
 use Rattle.raster.specs.Stock.{dropCell, clearDisk}
 use Rattle.raster.specs.Log.{clearCell, clearAfter, undone}
@@ -26,7 +26,7 @@ use Rattle.marked.specs.Table.{Table}
 pub table : Table
 unfolding ofBits toBits round narrowOf rootOf cosOf sinOf cosSeries sinSeries ofInt toUnsigned neg add sub mul div lt le eq isNan turns loop ones
     floorOf ceilOf maxOf isFinite rankOf totalOf sum difference scaled fromAngle vertexOf straddlesOf crossingOf startOf crossed loopCrossings crossingsIn
-    crossingsOf reachOf spansOf fitOf gridOf sizedOf newGrid onGrid cellOf stockAt rowY cellAt firstFrom colsOf diskRow lastRow rowsOf leftOf rightOf less crescentRow
+    crossingsOf reachOf spansOf fitOf gridOf sizedOf newGrid onGrid cellOf stockAt rowY cellAt firstFrom colsOf chordOf diskRow lastRow rowsOf leftOf rightOf less crescentRow
     overSpan diskAt overDisk crescentAt overCrescent dropCell clearDisk clearCell clearAfter undone samplesOf directionAt rimAt hitAt hitsOf angleOf
     rimContact precedes swapped sunk sortedOf between pairSpan pairAt fillPair fillRow rowCrossings fillAt fillRegion nearestInRow nearest listed
     squaresOf transformOf rootedOf distancesOf wantedOf

@@ -27,7 +27,7 @@ pub fn clear_disk(g: Grid, map: &mut [u8], c: Vec2, r: f64) -> Count
     if no != 0 {
         return Count::Refused(no);
     }
-    Count::Of(raster::stock::clear_disk(g, map, c, r))
+    Count::Of(raster::clear::clear_disk(g, map, c, r))
 }
 
 // How many stock cells are in the disk of radius r at c.

@@ -11,7 +11,7 @@ use Rattle.numbers.specs.Root.{rootOf}
 use Rattle.geom.specs.Vec.{f0}
 use Rattle.geom.specs.declared.vec2.Vec2.{Vec2}
 use Rattle.numbers.specs.Cast.{float}
-use Rattle.raster.specs.Disk.{rowY, cellAt, firstFrom, colsOf, diskRow, lastRow, rowsOf, leftOf, rightOf, less, two, crescentRow}
+use Rattle.raster.specs.Disk.{rowY, cellAt, firstFrom, colsOf, chordOf, lastRow, rowsOf, leftOf, rightOf, less, two}
 use Rattle.raster.specs.declared.grid.Grid.{Grid}
 use Rattle.raster.specs.declared.disk.Rows.{Rows}
 use Rattle.raster.specs.declared.disk.Crescent.{Crescent}
@@ -32,18 +32,18 @@ module _ (i0 i1 : Float) (nx : ℕ) (a : lt i1 f0 ≡ false) (b : lt i1 i0 ≡ f
   cols-are t k0 k1 l u v w = rw (a, b, ← p, t, ← u, ← v, ← w)
 
 abbrev h2Of : Float → Float → Float → Float
-h2Of r y cy = sub binary64 (mul binary64 r r) (mul binary64 (sub binary64 y cy) (sub binary64 y cy))
+h2Of r2 y cy = sub binary64 r2 (mul binary64 (sub binary64 y cy) (sub binary64 y cy))
 
-module _ (g : Grid) (c : Vec2) (r : Float) (j : ℕ) (y : Float) (p : y ≡ rowY g j) where
-  pub disk-none : lt (h2Of r y (c .y)) f0 ≡ true → Empty ≡ diskRow g c r j
-  unfolding diskRow
-  disk-none t = rw (← p, t)
+module _ (g : Grid) (c : Vec2) (r2 : Float) (j : ℕ) (y : Float) (p : y ≡ rowY g j) where
+  pub chord-none : lt (h2Of r2 y (c .y)) f0 ≡ true → Empty ≡ chordOf g c r2 j
+  unfolding chordOf
+  chord-none t = rw (← p, t)
 
-  pub disk-some : lt (h2Of r y (c .y)) f0 ≡ false → (h u i0 d i1 : Float) (s : Span) → h ≡ rootOf (h2Of r y (c .y))
+  pub chord-some : lt (h2Of r2 y (c .y)) f0 ≡ false → (h u i0 d i1 : Float) (s : Span) → h ≡ rootOf (h2Of r2 y (c .y))
       → u ≡ cellAt (sub binary64 (c .x) h) (g .origin .x) (g .cell) → i0 ≡ firstFrom u
-      → d ≡ cellAt (add binary64 (c .x) h) (g .origin .x) (g .cell) → i1 ≡ floorOf d → s ≡ colsOf i0 i1 (g .nx) → s ≡ diskRow g c r j
-  unfolding diskRow
-  disk-some t h u i0 d i1 s e₁ e₂ e₃ e₄ e₅ e₆ = rw (← p, t, ← e₁, ← e₂, ← e₃, ← e₄, ← e₅) e₆
+      → d ≡ cellAt (add binary64 (c .x) h) (g .origin .x) (g .cell) → i1 ≡ floorOf d → s ≡ colsOf i0 i1 (g .nx) → s ≡ chordOf g c r2 j
+  unfolding chordOf
+  chord-some t h u i0 d i1 s e₁ e₂ e₃ e₄ e₅ e₆ = rw (← p, t, ← e₁, ← e₂, ← e₃, ← e₄, ← e₅) e₆
 
 pub last-is : (j1 : Float) (ny k j : ℕ) → lt j1 f0 ≡ false → k ≡ toUnsigned 64 j1 → j ≡ min k (ny - 1) → j ≡ lastRow j1 ny
 unfolding lastRow
@@ -76,6 +76,6 @@ module _ (s q : Span) (i0 i1 : ℕ) (e : s ≡ Cols i0 i1) where
     unfolding less
     less-after a = rw (e, d, lt-leb p0 i1 a)
 
-pub crescent-is : (g : Grid) (prev c : Vec2) (r : Float) (j : ℕ) (s q : Span) (k : Crescent) → s ≡ diskRow g c r j → q ≡ diskRow g prev r j → k ≡ less s q → k ≡ crescentRow g prev c r j
-unfolding crescentRow
-crescent-is g prev c r j s q k a b e = rw (← a, ← b) e
+pub crescent-is : (g : Grid) (prev c : Vec2) (r2 : Float) (j : ℕ) (s q : Span) (k : Crescent) → s ≡ chordOf g c r2 j → q ≡ chordOf g prev r2 j → k ≡ less s q
+    → k ≡ less (chordOf g c r2 j) (chordOf g prev r2 j)
+crescent-is g prev c r2 j s q k a b e = rw (← a, ← b) e

@@ -22,7 +22,7 @@ use Rattle.floats.proofs.OrderLaws.{not-lt-le}
 use Rattle.floats.proofs.IndexLaws.{cut-mono}
 use Rattle.raster.specs.Grid.{Sides}
 use Rattle.numbers.specs.Cast.{float}
-use Rattle.raster.specs.Disk.{rowY, cellAt, firstFrom, colsOf, diskRow, crescentRow, rowsOf, leftOf, rightOf, less, two}
+use Rattle.raster.specs.Disk.{rowY, cellAt, firstFrom, colsOf, chordOf, diskRow, crescentRow, rowsOf, leftOf, rightOf, less, two}
 use Rattle.raster.specs.Sweep.{overSpan, diskAt, overDisk, crescentAt, overCrescent}
 use Rattle.raster.specs.Stock.{Cleared, cl, dropCell, clearDisk, tally, countDisk}
 use Rattle.raster.specs.Log.{Stock, Ready, taken, clearCell, clearAfter}
@@ -139,7 +139,7 @@ cols-straight i0 i1 nx w h p q =
 pub disk-straight : (g : Grid) (c : Vec2) (r : Float) (j : ℕ) → Sides g
     → isNan (floorOf (cellAt (add binary64 (c .x) (rootOf (sub binary64 (mul binary64 r r) (mul binary64 (sub binary64 (rowY g j) (c .y)) (sub binary64 (rowY g j) (c .y)))))) (g .origin .x) (g .cell))) ≡ false
     → Straight (diskRow g c r j)
-unfolding diskRow
+unfolding diskRow chordOf
 disk-straight g c r j s q =
     let dy = sub binary64 (rowY g j) (c .y) in
     let h2 = sub binary64 (mul binary64 r r) (mul binary64 dy dy) in

@@ -2,6 +2,7 @@
 use mathlib.Core.Path.{_≡_, refl}
 use mathlib.Core.Bool.{Bool, true, false, cond, _&&_, _||_}
 use Prim.Native.Nat.{ℕ, _+_, _-_, _*_, _^_, _≤_, _<_, min}
+use native.Mathlib.Nat.{add-mul}
 use native.Mathlib.Omega.{arith}
 use borrow.Author.Tests.{ltb-true, leb-true}
 use lib.Dec.{ltb, leb, lit≤}
@@ -16,7 +17,7 @@ use Rattle.loops.proofs.CellLaws.{row-below}
 use Rattle.floats.proofs.IndexLaws.{index-not-le}
 use Rattle.raster.specs.Grid.{Sides}
 use Rattle.numbers.specs.Cast.{float}
-use Rattle.raster.specs.Disk.{rowY, cellAt, firstFrom, colsOf, diskRow, lastRow, rowsOf, leftOf, rightOf, less, two, crescentRow}
+use Rattle.raster.specs.Disk.{rowY, cellAt, firstFrom, colsOf, chordOf, diskRow, lastRow, rowsOf, leftOf, rightOf, less, two, crescentRow}
 use Rattle.raster.specs.Sweep.{Inside}
 use Rattle.raster.specs.declared.grid.Grid.{Grid}
 use Rattle.raster.specs.declared.disk.Crescent.{Crescent}
@@ -51,16 +52,20 @@ cols-in i0 i1 nx w h q =
     by-test (InRow nx) (lt i1 f0 || (lt i1 i0 || le (float nx) i0)) Empty (Cols (toUnsigned 64 i0) (min (toUnsigned 64 i1) (nx - 1))) (λ t. tt)
     (λ t. (first-below nx i0 w h q (or-last (lt i1 f0) (lt i1 i0) (le (float nx) i0) t), omega arith))
 
-pub disk-in : (g : Grid) (c : Vec2) (r : Float) (j : ℕ) → Sides g → InRow (g .nx) (diskRow g c r j)
-unfolding diskRow
-disk-in g c r j s =
+pub chord-in : (g : Grid) (c : Vec2) (r2 : Float) (j : ℕ) → Sides g → InRow (g .nx) (chordOf g c r2 j)
+unfolding chordOf
+chord-in g c r2 j s =
     let dy = sub binary64 (rowY g j) (c .y) in
-    let h2 = sub binary64 (mul binary64 r r) (mul binary64 dy dy) in
+    let h2 = sub binary64 r2 (mul binary64 dy dy) in
     let h = rootOf h2 in
     let i0 = firstFrom (cellAt (sub binary64 (c .x) h) (g .origin .x) (g .cell)) in
     let i1 = floorOf (cellAt (add binary64 (c .x) h) (g .origin .x) (g .cell)) in
     by-test (InRow (g .nx)) (lt h2 f0) Empty (colsOf i0 i1 (g .nx)) (λ p. tt)
     (λ p. cols-in i0 i1 (g .nx) (s .wide) (s .columns) (first-number (cellAt (sub binary64 (c .x) h) (g .origin .x) (g .cell))))
+
+pub disk-in : (g : Grid) (c : Vec2) (r : Float) (j : ℕ) → Sides g → InRow (g .nx) (diskRow g c r j)
+unfolding diskRow
+disk-in g c r j s = chord-in g c (mul binary64 r r) j s
 
 left-in : (i0 i1 p0 nx : ℕ) → i1 < nx → p0 ≤ i1 → InRow nx (leftOf i0 p0)
 unfolding leftOf
@@ -86,9 +91,14 @@ pub crescent-in : (g : Grid) (prev c : Vec2) (r : Float) (j : ℕ) → Sides g �
 unfolding crescentRow
 crescent-in g prev c r j s = less-in (g .nx) (diskRow g c r j) (diskRow g prev r j) (disk-in g c r j s)
 
-pub in-map : (j ny nx n : ℕ) → j < ny → ny * nx ≤ n → (s : Span) → InRow nx s → Inside (j * nx) n s
-in-map j ny nx n h k Empty r = tt
-in-map j ny nx n h k (Cols a b) r = let l = row-below j ny nx n h k in (omega (arith, r .0), omega (arith, r .1))
+-- the first cell of row j has the number base
+pub in-map : (j ny nx n base : ℕ) → base ≡ j * nx → j < ny → ny * nx ≤ n → (s : Span) → InRow nx s → Inside base n s
+in-map j ny nx n base e h k Empty r = tt
+in-map j ny nx n base e h k (Cols a b) r = let l = row-below j ny nx n h k in (omega (arith, r .0), omega (arith, r .1))
+
+-- the next row begins nx cells on
+pub next-base : (j nx base : ℕ) → base ≡ j * nx → base + nx ≡ (j + 1) * nx
+next-base j nx base e = let l : (j + 1) * nx ≡ j * nx + 1 * nx = add-mul j 1 nx in omega arith
 
 pub last-below : (j1 : Float) (ny : ℕ) → 0 < ny → lastRow j1 ny < ny
 unfolding lastRow

@@ -3,7 +3,6 @@ use mathlib.Core.Path.{_≡_, refl, sym, ap, _∙_, subst}
 use mathlib.Core.List.{List, [], _∷_}
 use Prim.Native.Nat.{ℕ, zero, suc, _+_, _-_, _*_, _≤_, _<_}
 use native.Mathlib.Omega.{arith}
-use native.Mathlib.Nat.{add-mul}
 use native.Mathlib.Numerals.{add-one}
 use lib.ListN.{length, getD, set, take, length-set, length-take}
 use lib.Seq.{take-all}
@@ -81,8 +80,8 @@ span-most m base nx c Empty h = omega arith
 span-most m base nx c (Cols a b) h = omega (arith, run-most m (base + a) (base + b + 1) c, h .1)
 
 -- nor in the rows so far
-pub row-most : (m : List ℕ) (j nx n n′ : ℕ) (p : Span) → InRow nx p → n ≤ j * nx → n′ ≡ overSpan (tally m) (j * nx) p n → n′ ≤ (j + 1) * nx
-row-most m j nx n n′ p h k e = let l : (j + 1) * nx ≡ j * nx + 1 * nx = add-mul j 1 nx in omega (arith, span-most m (j * nx) nx n p h)
+pub row-most : (m : List ℕ) (base nx n n′ : ℕ) (p : Span) → InRow nx p → n ≤ base → n′ ≡ overSpan (tally m) base p n → n′ ≤ base + nx
+row-most m base nx n n′ p h k e = omega (arith, span-most m base nx n p h)
 
 -- ---- clearing
 

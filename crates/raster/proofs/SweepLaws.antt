@@ -3,11 +3,11 @@ use mathlib.Core.Path.{_≡_, refl, ap, _∙_, subst}
 use Prim.Native.Nat.{ℕ, zero, suc, _+_, _-_, _*_, _<_}
 use native.Mathlib.Numerals.{add-one}
 use native.Mathlib.Omega.{arith}
-use lib.Ieee.{Float}
+use lib.Ieee.{Float, binary64, mul}
 use Rattle.loops.specs.Loop.{turns, loop}
 use Rattle.loops.proofs.LoopLaws.{loop-more, loop-keeps}
 use Rattle.geom.specs.declared.vec2.Vec2.{Vec2}
-use Rattle.raster.specs.Disk.{diskRow, crescentRow, rowsOf}
+use Rattle.raster.specs.Disk.{chordOf, diskRow, less, crescentRow, rowsOf}
 use Rattle.raster.specs.Sweep.{overSpan, diskAt, overDisk, crescentAt, overCrescent, Inside}
 use Rattle.raster.specs.declared.grid.Grid.{Grid}
 use Rattle.raster.specs.declared.disk.Crescent.{Crescent}
@@ -104,18 +104,22 @@ module _ {S : Type 0} (f : ℕ → S → S) where
   unfolding overSpan
   span-cols base p a b s t e h = rw e h
 
-  pub disk-row-is : (g : Grid) (c : Vec2) (r : Float) (j : ℕ) (p : Span) (s t : S) → p ≡ diskRow g c r j → t ≡ overSpan f (j * g .nx) p s → t ≡ diskAt f g c r j s
-  unfolding diskAt
-  disk-row-is g c r j p s t e h = rw (← e) h
+  -- A row by the radius squared and by the number of its first cell, which the code carries from row to row, is the row of the definitions, which work out
+  -- both anew.
+  pub disk-row-is : (g : Grid) (c : Vec2) (r : Float) (j base : ℕ) (p : Span) (s t : S) → base ≡ j * g .nx → p ≡ chordOf g c (mul binary64 r r) j
+      → t ≡ overSpan f base p s → t ≡ diskAt f g c r j s
+  unfolding diskAt diskRow
+  disk-row-is g c r j base p s t b e h = rw (← b, ← e) h
 
   pub disk-is : (g : Grid) (c : Vec2) (r : Float) (rows : Rows) (s t : S) → rows ≡ rowsOf g c r → t ≡ loop (diskAt f g c r) (rows .0) (rows .1 + 1) s → t ≡ overDisk f g c r s
   unfolding overDisk
   disk-is g c r rows s t e h = rw (← e) h
 
-  pub crescent-row-is : (g : Grid) (prev c : Vec2) (r : Float) (j : ℕ) (p : Crescent) (s t u : S) → p ≡ crescentRow g prev c r j
-      → t ≡ overSpan f (j * g .nx) (p .left) s → u ≡ overSpan f (j * g .nx) (p .right) t → u ≡ crescentAt f g prev c r j s
-  unfolding crescentAt
-  crescent-row-is g prev c r j p s t u e a b = rw (← e, ← a) b
+  pub crescent-row-is : (g : Grid) (prev c : Vec2) (r : Float) (j base : ℕ) (p : Crescent) (s t u : S) → base ≡ j * g .nx
+      → p ≡ less (chordOf g c (mul binary64 r r) j) (chordOf g prev (mul binary64 r r) j) → t ≡ overSpan f base (p .left) s → u ≡ overSpan f base (p .right) t
+      → u ≡ crescentAt f g prev c r j s
+  unfolding crescentAt crescentRow diskRow
+  crescent-row-is g prev c r j base p s t u d e a b = rw (← d, ← e, ← a) b
 
   pub crescent-is : (g : Grid) (prev c : Vec2) (r : Float) (rows : Rows) (s t : S) → rows ≡ rowsOf g c r
       → t ≡ loop (crescentAt f g prev c r) (rows .0) (rows .1 + 1) s → t ≡ overCrescent f g prev c r s

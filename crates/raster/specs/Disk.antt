@@ -33,14 +33,19 @@ firstFrom x = maxOf (ceilOf x) f0
 unfoldable pub colsOf : Float → Float → ℕ → Span
 colsOf i0 i1 nx = cond (lt i1 f0 || (lt i1 i0 || le (float nx) i0)) Empty (Cols (toUnsigned 64 i0) (min (toUnsigned 64 i1) (nx - 1)))
 
-unfoldable pub diskRow : Grid → Vec2 → Float → ℕ → Span
-diskRow g c r j =
+-- the columns of row j in the disk at c, of the radius whose square is r2
+unfoldable pub chordOf : Grid → Vec2 → Float → ℕ → Span
+chordOf g c r2 j =
     let dy = sub binary64 (rowY g j) (c .y) in
-    let h2 = sub binary64 (mul binary64 r r) (mul binary64 dy dy) in
+    let h2 = sub binary64 r2 (mul binary64 dy dy) in
     let h = rootOf h2 in
     let i0 = firstFrom (cellAt (sub binary64 (c .x) h) (g .origin .x) (g .cell)) in
     let i1 = floorOf (cellAt (add binary64 (c .x) h) (g .origin .x) (g .cell)) in
     cond (lt h2 f0) Empty (colsOf i0 i1 (g .nx))
+
+-- each row squares the radius
+unfoldable pub diskRow : Grid → Vec2 → Float → ℕ → Span
+diskRow g c r j = chordOf g c (mul binary64 r r) j
 
 unfoldable pub lastRow : Float → ℕ → ℕ
 lastRow j1 ny = cond (lt j1 f0) 0 (min (toUnsigned 64 j1) (ny - 1))

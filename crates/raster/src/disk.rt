@@ -1,7 +1,7 @@
 // The cells of a row whose centres lie in a disk, the rows that a disk can reach, and a crescent's row.
 ghost use mathlib.Core.Path.{_≡_};
 ghost use Prim.Native.Nat.{_-_, min};
-ghost use Rattle.raster.specs.Disk.{rowY, cellAt, firstFrom, colsOf, diskRow, lastRow, rowsOf, leftOf, rightOf, less, crescentRow};
+ghost use Rattle.raster.specs.Disk.{rowY, cellAt, firstFrom, colsOf, chordOf, lastRow, rowsOf, leftOf, rightOf, less};
 use super::grid::Grid;
 use geom::vec2::Vec2;
 use numbers::cast::float_of;
@@ -72,11 +72,12 @@ fn cols_of(i0: f64, i1: f64, nx: usize) -> Span
     )
 }
 
-pub fn disk_row(g: Grid, c: Vec2, r: f64, j: usize) -> Span
-    ensures { λ s. ⌜ s ≡ diskRow g c r j ⌝ }
+// The columns of a row in the disk at c. Its radius comes squared, once for all its rows.
+pub fn chord(g: Grid, c: Vec2, r2: f64, j: usize) -> Span
+    ensures { λ s. ⌜ s ≡ chordOf g c r2 j ⌝ }
 {
     let dy = row_y(g, j) - c.y;
-    let h2 = r * r - dy * dy;
+    let h2 = r2 - dy * dy;
     if h2 < 0.0 {
         return Span::Empty;
     }
@@ -152,8 +153,8 @@ fn span_less(s: Span, q: Span) -> Crescent
     }
 }
 
-pub fn crescent_row(g: Grid, prev: Vec2, c: Vec2, r: f64, j: usize) -> Crescent
-    ensures { λ s. ⌜ s ≡ crescentRow g prev c r j ⌝ }
+pub fn crescent_row(g: Grid, prev: Vec2, c: Vec2, r2: f64, j: usize) -> Crescent
+    ensures { λ s. ⌜ s ≡ less (chordOf g c r2 j) (chordOf g prev r2 j) ⌝ }
 {
-    span_less(disk_row(g, c, r, j), disk_row(g, prev, r, j))
+    span_less(chord(g, c, r2, j), chord(g, prev, r2, j))
 }

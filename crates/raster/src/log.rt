@@ -62,15 +62,20 @@ pub fn clear_disk_after_logged(
     let rows = rows_of(g, c, r);
     let first = rows.0;
     let last = rows.1;
+    if last < first {
+        return count;
+    }
+    let r2 = r * r;
     let nx = g.nx;
+    let mut base = first * nx;
     let mut n = count;
     for j in first..last + 1 {
-        let p = crescent_row(g, prev, c, r, j);
+        let p = crescent_row(g, prev, c, r2, j);
         let left = p.left;
         let right = p.right;
-        let base = j * nx;
         n = clear_span_logged(map, base, left, log, n);
         n = clear_span_logged(map, base, right, log, n);
+        base += nx;
     }
     n
 }

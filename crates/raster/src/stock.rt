@@ -1,4 +1,4 @@
-// The stock map: counted, intersected, cleared of a disk.
+// The stock map: counted, whole or under a disk, and intersected.
 ghost use mathlib.Core.Path.{_≡_};
 ghost use Prim.Native.Nat.{_≤_};
 ghost use lib.ListN.{length};
@@ -6,9 +6,9 @@ ghost use Rattle.loops.specs.Loop.{loop};
 ghost use Rattle.loops.specs.Cells.{ones};
 ghost use Rattle.raster.specs.Grid.{Over};
 ghost use Rattle.raster.specs.Sweep.{Inside, overSpan};
-ghost use Rattle.raster.specs.Stock.{cl, dropCell, clearDisk, Fair, tally, countDisk, intersection};
+ghost use Rattle.raster.specs.Stock.{tally, countDisk, intersection};
 use super::disk::Span;
-use super::disk::disk_row;
+use super::disk::chord;
 use super::disk::rows_of;
 use super::grid::Grid;
 use geom::vec2::Vec2;
@@ -38,50 +38,6 @@ pub fn intersect(map: &mut [u8], other: &[u8])
     }
 }
 
-// Clears cells from..to; n counts those that were stock.
-fn drop_run(map: &mut [u8], from: usize, to: usize, count: usize) -> usize
-    requires { ⌜ to ≤ length (now map) ⌝ }
-    requires { ⌜ Fair (cl (now map) count) ⌝ }
-    ensures { λ n. ⌜ cl (now (map .exit)) n ≡ loop dropCell from to (cl (now (map .entry)) count) ⌝ }
-{
-    let mut n = count;
-    for k in from..to {
-        if map[k] == 1 {
-            map[k] = 0;
-            n += 1;
-        }
-    }
-    n
-}
-
-fn drop_span(map: &mut [u8], base: usize, s: Span, count: usize) -> usize
-    requires { ⌜ Inside base (length (now map)) s ⌝ }
-    requires { ⌜ Fair (cl (now map) count) ⌝ }
-    ensures { λ n. ⌜ cl (now (map .exit)) n ≡ overSpan dropCell base s (cl (now (map .entry)) count) ⌝ }
-{
-    match s {
-        Span::Empty => count,
-        Span::Cols(a, b) => drop_run(map, base + a, base + b + 1, count),
-    }
-}
-
-// Clears the disk of radius r at c; how many cells were stock.
-pub fn clear_disk(g: Grid, map: &mut [u8], c: Vec2, r: f64) -> usize
-    requires { ⌜ Over g (length (now map)) ⌝ }
-    ensures { λ n. ⌜ cl (now (map .exit)) n ≡ clearDisk g c r (now (map .entry)) ⌝ }
-{
-    let rows = rows_of(g, c, r);
-    let first = rows.0;
-    let last = rows.1;
-    let nx = g.nx;
-    let mut n = 0;
-    for j in first..last + 1 {
-        let s = disk_row(g, c, r, j);
-        n = drop_span(map, j * nx, s, n);
-    }
-    n
-}
-
 fn count_run(map: &[u8], from: usize, to: usize, count: usize) -> usize
     requires { ⌜ to ≤ length (now map) ⌝ }
     requires { ⌜ count ≤ from ⌝ }
@@ -97,7 +53,7 @@ fn count_run(map: &[u8], from: usize, to: usize, count: usize) -> usize
 }
 
 // No more is counted than the cells of the rows before.
-fn count_span(map: &[u8], base: usize, s: Span, count: usize) -> usize
+pub fn count_span(map: &[u8], base: usize, s: Span, count: usize) -> usize
     requires { ⌜ Inside base (length (now map)) s ⌝ }
     requires { ⌜ count ≤ base ⌝ }
     ensures { λ n. ⌜ n ≡ overSpan (tally (now (map .entry))) base s count ⌝ }
@@ -108,7 +64,7 @@ fn count_span(map: &[u8], base: usize, s: Span, count: usize) -> usize
     }
 }
 
-// How many stock cells are in the disk of radius r at c.
+// How many stock cells are in the disk of radius r at c. Each row begins nx cells after the one before.
 pub fn count_disk(g: Grid, map: &[u8], c: Vec2, r: f64) -> usize
     requires { ⌜ Over g (length (now map)) ⌝ }
     ensures { λ n. ⌜ n ≡ countDisk g c r (now (map .entry)) ⌝ }
@@ -116,11 +72,17 @@ pub fn count_disk(g: Grid, map: &[u8], c: Vec2, r: f64) -> usize
     let rows = rows_of(g, c, r);
     let first = rows.0;
     let last = rows.1;
+    if last < first {
+        return 0;
+    }
+    let r2 = r * r;
     let nx = g.nx;
+    let mut base = first * nx;
     let mut n = 0;
     for j in first..last + 1 {
-        let s = disk_row(g, c, r, j);
-        n = count_span(map, j * nx, s, n);
+        let s = chord(g, c, r2, j);
+        n = count_span(map, base, s, n);
+        base += nx;
     }
     n
 }

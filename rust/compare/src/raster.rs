@@ -64,6 +64,18 @@ mod linked {
             y: f64,
             r: f64,
         ) -> usize;
+        pub fn plain_count_disk(
+            ox: f64,
+            oy: f64,
+            cell: f64,
+            nx: usize,
+            ny: usize,
+            map: *const u8,
+            map_len: usize,
+            x: f64,
+            y: f64,
+            r: f64,
+        ) -> usize;
         pub fn raster_clear_disk_after_logged(
             ox: f64,
             oy: f64,
@@ -216,6 +228,14 @@ impl Stock {
         let (o, m) = (self.origin, &self.map);
         unsafe {
             linked::raster_count_disk(o.x, o.y, self.cell, self.nx, self.ny, m.as_ptr(), m.len(), c.x, c.y, r)
+        }
+    }
+
+    /// The same by the plain form.
+    pub fn plain_count_disk(&self, c: Vec2, r: f64) -> usize {
+        let (o, m) = (self.origin, &self.map);
+        unsafe {
+            linked::plain_count_disk(o.x, o.y, self.cell, self.nx, self.ny, m.as_ptr(), m.len(), c.x, c.y, r)
         }
     }
 

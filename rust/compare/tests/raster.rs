@@ -147,11 +147,46 @@ fn disks() {
             let (c, rad) = (point(r, &grid), radius(r, &grid));
             let j = r.below(grid.ny as u64) as usize;
             assert_eq!(stock.disk_row(c, rad, j), grid.disk_row(c, rad, j), "{c:?} {rad} {j}");
-            assert_eq!(stock.count_disk(c, rad), grid.count_disk(c, rad), "{c:?} {rad} {grid:?}");
+            let want = grid.count_disk(c, rad);
+            assert_eq!(stock.count_disk(c, rad), want, "{c:?} {rad} {grid:?}");
+            assert_eq!(stock.plain_count_disk(c, rad), want, "{c:?} {rad} {grid:?}");
             assert_eq!(stock.clear_disk(c, rad), grid.clear_disk(c, rad), "{c:?} {rad}");
             same_map(&stock, &grid);
         }
     });
+}
+
+/// Disks far off the map, whose first row no map has, and of special numbers.
+#[test]
+fn disks_of_any_numbers() {
+    const NUMBERS: [f64; 12] =
+        [0.0, -0.0, 3.7, -3.7, 4096.0, 1e19, -1e19, 1e300, -1e300, f64::INFINITY, -f64::INFINITY, f64::NAN];
+    let drawn = |r: &mut Rng| NUMBERS[r.below(NUMBERS.len() as u64) as usize];
+    let (mut none, mut some) = (0, 0);
+    each(38, CALLS / 4, |r, mut stock, mut grid| {
+        for _ in 0..4 {
+            let near = point(r, &grid);
+            let c = [v2(drawn(r), near.y), v2(near.x, drawn(r)), v2(drawn(r), drawn(r)), near]
+                [r.below(4) as usize];
+            let rad = drawn(r);
+            let want = grid.count_disk(c, rad);
+            if want == 0 {
+                none += 1
+            } else {
+                some += 1
+            }
+            assert_eq!(stock.count_disk(c, rad), want, "{c:?} {rad} {grid:?}");
+            assert_eq!(stock.plain_count_disk(c, rad), want, "{c:?} {rad} {grid:?}");
+            assert_eq!(
+                stock.clear_disk_after_logged(near, c, rad),
+                grid.clear_disk_after(near, c, rad),
+                "{near:?} {c:?} {rad}"
+            );
+            assert_eq!(stock.clear_disk(c, rad), grid.clear_disk(c, rad), "{c:?} {rad}");
+            same_map(&stock, &grid);
+        }
+    });
+    assert!(none > 1000 && some > 1000, "{none} {some}");
 }
 
 #[test]

@@ -1,5 +1,5 @@
 -- `raster::fill::fill_row` meets its contract. The invariant: the map is what the pairs so far leave. Assumes nothing.
-use mathlib.Core.Path.{_≡_, sym, ap, _∙_, subst}
+use mathlib.Core.Path.{_≡_, refl, sym, ap, _∙_, subst}
 use Prim.Native.Nat.{_-_, _+_, _*_, _/_, _<_}
 use native.Mathlib.Omega.{arith}
 use lib.ListN.{length}
@@ -60,7 +60,7 @@ pair-span-requires c κs = search needs
 set-span-requires : tie.Need-set-span-requires Inv-loop μ-loop
 set-span-requires c κs =
     let s = c .before .before .before .before .before .before .before .before in
-    in-map _ (s .args .g .ny) (s .args .g .nx) _ (s .pre .1) (omega (arith, s .pre .0 .long, long (c .before .before .before .before .before))) (c .before .pair-span .result)
+    in-map _ (s .args .g .ny) (s .args .g .nx) _ _ refl (s .pre .1) (omega (arith, s .pre .0 .long, long (c .before .before .before .before .before))) (c .before .pair-span .result)
     (subst (InRow (s .args .g .nx)) (sym (c .before .pair-span .ensures)) (pair-in _ _ _ (s .pre .0 .sides .wide)))
 
 add-p : tie.Need-add-p Inv-loop μ-loop

@@ -1,5 +1,5 @@
--- `raster::stock::count_disk` meets its contract. The invariant: the count is what the rows so far leave, and no more than they have cells. Assumes nothing.
-use mathlib.Core.Path.{sym, subst}
+-- `raster::stock::count_disk` meets its contract. The invariant: the count is what the rows so far leave, the next row begins at cell `base`, and no more is counted than cells before it. Assumes nothing.
+use mathlib.Core.Path.{_≡_, refl, sym, subst}
 use Prim.Native.Nat.{_-_, _≤_, _<_, _+_, _*_}
 use native.Mathlib.Omega.{arith}
 use Rattle.loops.proofs.CellLaws.{row-below}
@@ -7,7 +7,7 @@ use Rattle.loops.proofs.LoopLaws.{Going, going-none, going-more, going-end}
 use Rattle.raster.specs.Sweep.{diskAt}
 use Rattle.raster.specs.Stock.{tally, countDisk}
 use Rattle.raster.specs.declared.disk.Rows.{Rows}
-use Rattle.raster.proofs.RowLaws.{InRow, disk-in, in-map, rows-below}
+use Rattle.raster.proofs.RowLaws.{InRow, chord-in, in-map, next-base, rows-below}
 use Rattle.raster.proofs.SweepLaws.{disk-row-is, disk-is}
 use Rattle.raster.proofs.StockLaws.{row-most}
 use borrow.Author.Needs.{needs}
@@ -15,56 +15,69 @@ use Rattle.raster.proofs.stock.count_disk.Statement.{statement}
 use Rattle.raster.proofs.stock.count_disk.Tie as tie
 
 abbrev Inv-loop : tie.InvT-loop
-Inv-loop g map c r first last nx n₀ j₀ j-end n j = Going (diskAt (tally map) g c r) first (last + 1) 0 n j × (n ≤ j * nx)
+Inv-loop g map c r first last r2 nx base₀ n₀ j₀ j-end base n j = Going (diskAt (tally map) g c r) first (last + 1) 0 n j × (base ≡ j * nx) × (n ≤ base)
 
 abbrev μ-loop : tie.MeasureT-loop
-μ-loop g map c r first last nx n₀ j₀ j-end n j = last + 1 - j
+μ-loop g map c r first last r2 nx base₀ n₀ j₀ j-end base n j = last + 1 - j
 
 -- the last row is one of the grid's
 last-row : (c : tie.After-rows-of Inv-loop μ-loop) → c .rows-of .result .1 < c .before .before .args .g .ny
 last-row c = subst (λ (q : Rows). q .1 < c .before .before .args .g .ny) (sym (c .rows-of .ensures)) (rows-below _ _ _ (c .before .before .pre .sides .high))
 
 -- in a turn the row is one of the grid's, and its span lies in it
-row : (c : tie.In-loop Inv-loop μ-loop) → c .before .loop .j < c .before .before .before .before .args .g .ny
-row c = omega (arith, c .loop-test .taken, last-row (c .before .before))
+row : (c : tie.In-loop Inv-loop μ-loop) → c .before .loop .j < c .before .before .before .before .before .args .g .ny
+row c = omega (arith, c .loop-test .taken, last-row (c .before .before .before))
 
-within : (c : tie.After-disk-row Inv-loop μ-loop) → InRow (c .before .before .before .before .before .args .g .nx) (c .disk-row .result)
-within c = subst (InRow (c .before .before .before .before .before .args .g .nx)) (sym (c .disk-row .ensures)) (disk-in _ _ _ _ (c .before .before .before .before .before .pre .sides))
+within : (c : tie.After-chord Inv-loop μ-loop) → InRow (c .before .before .before .before .before .before .args .g .nx) (c .chord .result)
+within c = subst (InRow (c .before .before .before .before .before .before .args .g .nx)) (sym (c .chord .ensures)) (chord-in _ _ _ _ (c .before .before .before .before .before .before .pre .sides))
 
 rows-of-requires : tie.Need-rows-of-requires Inv-loop μ-loop
 rows-of-requires c κs = search needs
 
+returns : tie.Need-returns Inv-loop μ-loop
+unfolding countDisk
+returns c = disk-is _ _ _ _ _ _ _ (c .before .rows-of .ensures) (going-end _ _ _ _ _ _ (going-none _ _ _ _) (omega (arith, c .if1 .taken)))
+
+mul-base : tie.Need-mul-base Inv-loop μ-loop
+mul-base c = omega (arith, row-below _ _ _ _ (let l : c .before .rows-of .result .0 < c .before .before .before .args .g .ny = omega (arith, c .if1 .left, last-row (c .before)) in l) (c .before .before .before .pre .long), c .before .before .before .good)
+
 add-j-end : tie.Need-add-j-end Inv-loop μ-loop
-add-j-end c = omega (arith, last-row c)
+add-j-end c = omega (arith, last-row (c .before))
 
 loop-holds : tie.Need-loop-holds Inv-loop μ-loop
-loop-holds c = (going-none _ _ _ _, omega arith)
+loop-holds c = (going-none _ _ _ _, refl, omega arith)
 
-disk-row-requires : tie.Need-disk-row-requires Inv-loop μ-loop
-disk-row-requires c κs = search needs
-
-mul-count-span : tie.Need-mul-count-span Inv-loop μ-loop
-mul-count-span c = omega (arith, row-below _ _ _ _ (row (c .before)) (c .before .before .before .before .before .pre .long), c .before .before .before .before .before .good)
+chord-requires : tie.Need-chord-requires Inv-loop μ-loop
+chord-requires c κs = search needs
 
 count-span-requires : tie.Need-count-span-requires Inv-loop μ-loop
 count-span-requires c κs =
-    (in-map _ (c .before .before .before .before .before .args .g .ny) (c .before .before .before .before .before .args .g .nx) _ (row (c .before)) (c .before .before .before .before .before .pre .long) (c .disk-row .result) (within c), c .before .before .loop .inv .1)
+    let s = c .before .before .before .before .before .before in
+    let at = c .before .before .loop .inv in
+    (in-map _ (s .args .g .ny) (s .args .g .nx) _ _ (at .1) (row (c .before)) (s .pre .long) (c .chord .result) (within c), at .2)
+
+add-base : tie.Need-add-base Inv-loop μ-loop
+add-base c =
+    let s = c .before .before .before .before .before .before .before in
+    omega (arith, c .before .before .before .loop .inv .1, row-below _ _ _ _ (row (c .before .before)) (s .pre .long), s .good)
 
 add-j : tie.Need-add-j Inv-loop μ-loop
-add-j c = omega (arith, row (c .before .before), c .before .before .before .before .before .before .good .0)
+add-j c = omega (arith, row (c .before .before), c .before .before .before .before .before .before .before .good .0)
 
 loop-less : tie.Need-loop-less Inv-loop μ-loop
 loop-less c = omega (arith, c .before .before .loop-test .taken)
 
 loop-again : tie.Need-loop-again Inv-loop μ-loop
-loop-again c = (
-  going-more _ _ _ _ _ _ _ (c .before .before .before .loop .inv .0) (c .before .before .loop-test .taken) (disk-row-is _ _ _ _ _ _ _ _ (c .before .disk-row .ensures) (c .count-span .ensures)),
-  row-most _ _ _ _ _ _ (within (c .before)) (c .before .before .before .loop .inv .1) (c .count-span .ensures),
-)
+loop-again c =
+    let at = c .before .before .before .loop .inv in (
+      going-more _ _ _ _ _ _ _ (at .0) (c .before .before .loop-test .taken) (disk-row-is _ _ _ _ _ _ _ _ _ (at .1) (c .before .chord .ensures) (c .count-span .ensures)),
+      next-base _ _ _ (at .1),
+      row-most _ _ _ _ _ _ (within (c .before)) (at .2) (c .count-span .ensures),
+    )
 
-returns : tie.Need-returns Inv-loop μ-loop
+returns-2 : tie.Need-returns-2 Inv-loop μ-loop
 unfolding countDisk
-returns c = disk-is _ _ _ _ _ _ _ (c .before .before .rows-of .ensures) (going-end _ _ _ _ _ _ (c .before .loop .inv .0) (c .loop-test .left))
+returns-2 c = disk-is _ _ _ _ _ _ _ (c .before .before .before .rows-of .ensures) (going-end _ _ _ _ _ _ (c .before .loop .inv .0) (c .loop-test .left))
 
 pub count-disk-spec : {M : Type 1} → statement M
 count-disk-spec =
@@ -73,12 +86,14 @@ count-disk-spec =
     Inv-loop
     μ-loop
     rows-of-requires
+    returns
+    mul-base
     add-j-end
     loop-holds
-    disk-row-requires
-    mul-count-span
+    chord-requires
     count-span-requires
+    add-base
     add-j
     loop-less
     loop-again
-    returns)
+    returns-2)

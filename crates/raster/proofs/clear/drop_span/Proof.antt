@@ -1,9 +1,9 @@
--- `raster::stock::drop_span` meets its contract. Assumes nothing.
+-- `raster::clear::drop_span` meets its contract. Assumes nothing.
 use native.Mathlib.Omega.{arith}
 use Rattle.raster.proofs.SweepLaws.{inside-cols, span-none, span-cols}
 use borrow.Author.Needs.{needs}
-use Rattle.raster.proofs.stock.drop_span.Statement.{statement}
-use Rattle.raster.proofs.stock.drop_span.Tie as tie
+use Rattle.raster.proofs.clear.drop_span.Statement.{statement}
+use Rattle.raster.proofs.clear.drop_span.Tie as tie
 
 enum-told : tie.Need-enum-told
 enum-told c = search needs

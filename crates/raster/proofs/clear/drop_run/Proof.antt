@@ -1,4 +1,4 @@
--- `raster::stock::drop_run` meets its contract. The invariant: the map and the count are what the turns so far leave. Assumes nothing.
+-- `raster::clear::drop_run` meets its contract. The invariant: the map and the count are what the turns so far leave. Assumes nothing.
 use mathlib.Core.Path.{_∙_}
 use mathlib.Core.Logic.{⊎-elim}
 use Prim.Native.Nat.{_-_}
@@ -6,8 +6,8 @@ use native.Mathlib.Omega.{arith}
 use Rattle.loops.proofs.LoopLaws.{Going, going-none, going-more, going-end}
 use Rattle.raster.specs.Stock.{cl, dropCell}
 use Rattle.raster.proofs.StockLaws.{Left, going-left, fair-left, drop-taken, drop-passed, cl-eq}
-use Rattle.raster.proofs.stock.drop_run.Statement.{statement}
-use Rattle.raster.proofs.stock.drop_run.Tie as tie
+use Rattle.raster.proofs.clear.drop_run.Statement.{statement}
+use Rattle.raster.proofs.clear.drop_run.Tie as tie
 
 abbrev Inv-loop : tie.InvT-loop
 Inv-loop map₀ from to count n₀ k₀ map n k = Going dropCell from to (cl map₀ count) (cl map n) k

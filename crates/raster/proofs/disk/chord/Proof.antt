@@ -1,14 +1,14 @@
--- `raster::disk::disk_row` meets its contract. Assumes nothing.
-use Rattle.raster.proofs.DiskLaws.{disk-none, disk-some}
+-- `raster::disk::chord` meets its contract. Assumes nothing.
+use Rattle.raster.proofs.DiskLaws.{chord-none, chord-some}
 use borrow.Author.Needs.{needs}
-use Rattle.raster.proofs.disk.disk_row.Statement.{statement}
-use Rattle.raster.proofs.disk.disk_row.Tie as tie
+use Rattle.raster.proofs.disk.chord.Statement.{statement}
+use Rattle.raster.proofs.disk.chord.Tie as tie
 
 row-y-requires : tie.Need-row-y-requires
 row-y-requires c κs = search needs
 
 returns : tie.Need-returns
-returns c = disk-none _ _ _ _ _ (c .before .before .row-y .ensures) (c .if1 .taken)
+returns c = chord-none _ _ _ _ _ (c .before .before .row-y .ensures) (c .if1 .taken)
 
 sqrt-requires : tie.Need-sqrt-requires
 sqrt-requires c κs = search needs
@@ -32,11 +32,11 @@ returns-2 : tie.Need-returns-2
 returns-2 c =
     let first = c .before .before .before .before in
     let root = first .before .before .before in
-    disk-some _ _ _ _ _ (root .before .before .before .row-y .ensures) (root .before .if1 .left) _ _ _ _ _ _ (root .sqrt .ensures) (first .before .place .ensures)
+    chord-some _ _ _ _ _ (root .before .before .before .row-y .ensures) (root .before .if1 .left) _ _ _ _ _ _ (root .sqrt .ensures) (first .before .place .ensures)
     (first .first-from .ensures) (c .before .before .place2 .ensures) (c .before .floor .ensures) (c .cols-of .ensures)
 
-pub disk-row-spec : {M : Type 1} → statement M
-disk-row-spec =
+pub chord-spec : {M : Type 1} → statement M
+chord-spec =
     tie.close
     (tie.spec
     row-y-requires
