@@ -1,5 +1,5 @@
 -- The columns of a row lie in the row, and a row's cells in the map. Assumes nothing.
-use mathlib.Core.Path.{_≡_, refl}
+use mathlib.Core.Path.{_≡_, refl, sym, subst}
 use mathlib.Core.Bool.{Bool, true, false, cond, _&&_, _||_}
 use Prim.Native.Nat.{ℕ, _+_, _-_, _*_, _^_, _≤_, _<_, min}
 use native.Mathlib.Nat.{add-mul}
@@ -21,6 +21,7 @@ use Rattle.raster.specs.Disk.{rowY, cellAt, firstFrom, colsOf, chordOf, 
 use Rattle.raster.specs.Sweep.{Inside}
 use Rattle.raster.specs.declared.grid.Grid.{Grid}
 use Rattle.raster.specs.declared.disk.Crescent.{Crescent}
+use Rattle.raster.specs.declared.disk.Rows.{Rows}
 use Rattle.raster.specs.declared.disk.Span.{Span}
 use Rattle.raster.specs.declared.disk.Span.the-variants.{Empty, Cols}
 
@@ -62,6 +63,9 @@ chord-in g c r2 j s =
     let i1 = floorOf (cellAt (add binary64 (c .x) h) (g .origin .x) (g .cell)) in
     by-test (InRow (g .nx)) (lt h2 f0) Empty (colsOf i0 i1 (g .nx)) (λ p. tt)
     (λ p. cols-in i0 i1 (g .nx) (s .wide) (s .columns) (first-number (cellAt (sub binary64 (c .x) h) (g .origin .x) (g .cell))))
+
+pub chord-within : (g : Grid) (c : Vec2) (r2 : Float) (j : ℕ) (s : Span) → s ≡ chordOf g c r2 j → Sides g → InRow (g .nx) s
+chord-within g c r2 j s e h = subst (InRow (g .nx)) (sym e) (chord-in g c r2 j h)
 
 pub disk-in : (g : Grid) (c : Vec2) (r : Float) (j : ℕ) → Sides g → InRow (g .nx) (diskRow g c r j)
 unfolding diskRow
@@ -107,3 +111,6 @@ last-below j1 ny h = by-test (λ (n : ℕ). n < ny) (lt j1 f0) 0 (min (toUnsigne
 pub rows-below : (g : Grid) (c : Vec2) (r : Float) → 0 < g .ny → rowsOf g c r .1 < g .ny
 unfolding rowsOf
 rows-below g c r h = last-below (floorOf (cellAt (add binary64 (c .y) r) (g .origin .y) (g .cell))) (g .ny) h
+
+pub last-within : (g : Grid) (c : Vec2) (r : Float) (rows : Rows) → rows ≡ rowsOf g c r → 0 < g .ny → rows .1 < g .ny
+last-within g c r rows e h = subst (λ (q : Rows). q .1 < g .ny) (sym e) (rows-below g c r h)

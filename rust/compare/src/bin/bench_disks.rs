@@ -13,6 +13,8 @@ const CELL: f64 = 0.05;
 const ORIGIN: Vec2 = Vec2 { x: -3.1, y: 2.7 };
 /// In cells.
 const RADII: [f64; 9] = [1.0, 2.0, 5.0, 10.0, 20.0, 50.0, 100.0, 200.0, 500.0];
+/// The half-cleared map has stripes of so many cells.
+const STRIPE: usize = 7;
 const DISKS: usize = 64;
 const TRIES: usize = 15;
 /// Nanoseconds that a try of one side takes at least.
@@ -70,7 +72,7 @@ fn times(disks: &[(Vec2, f64)], sides: [&dyn Fn(Vec2, f64) -> usize; SIDES]) -> 
 fn main() {
     let cases = [
         ("full", maps(|_, _| true)),
-        ("half-cleared", maps(|i, _| i < SIDE / 2)),
+        ("half-cleared", maps(|i, j| (i + j) / STRIPE % 2 == 0)),
         ("empty", maps(|_, _| false)),
     ];
     println!(

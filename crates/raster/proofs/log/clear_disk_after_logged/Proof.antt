@@ -8,10 +8,9 @@ use Rattle.raster.specs.Sweep.{crescentAt}
 use Rattle.raster.specs.Log.{st, Ready, clearCell, clearAfter}
 use Rattle.loops.proofs.CellLaws.{row-below}
 use Rattle.loops.proofs.LoopLaws.{Going, going-none, going-more, going-end}
-use Rattle.raster.proofs.RowLaws.{BothIn, chord-in, less-in, in-map, next-base, rows-below}
+use Rattle.raster.proofs.RowLaws.{BothIn, chord-in, less-in, in-map, next-base, last-within}
 use Rattle.raster.proofs.SweepLaws.{crescent-row-is, crescent-is}
 use Rattle.raster.proofs.LogLaws.{Kept, ready-kept, going-rows, span-kept, le-same}
-use Rattle.raster.specs.declared.disk.Rows.{Rows}
 use Rattle.raster.proofs.log.clear_disk_after_logged.Statement.{statement}
 use Rattle.raster.proofs.log.clear_disk_after_logged.Tie as tie
 
@@ -23,7 +22,7 @@ abbrev μ-loop : tie.MeasureT-loop
 
 -- the last row is one of the grid's
 last-row : (c : tie.After-rows-of Inv-loop μ-loop) → c .rows-of .result .1 < c .before .before .before .args .g .ny
-last-row c = subst (λ (q : Rows). q .1 < c .before .before .before .args .g .ny) (sym (c .rows-of .ensures)) (rows-below _ _ _ (c .before .before .before .pre .0 .sides .high))
+last-row c = last-within _ _ _ _ (c .rows-of .ensures) (c .before .before .before .pre .0 .sides .high)
 
 -- what clearing keeps, at the loop's head
 kept : (c : tie.At-loop Inv-loop μ-loop)
@@ -94,7 +93,7 @@ loop-again c =
     let k = c .before .before .before .before .before .before .before .before .before .before .before .before .before .before in
     let at = k .before .before .loop .inv in (
       going-more _ _ _ _ _ _ _ (at .0) (k .before .loop-test .taken)
-      (crescent-row-is _ _ _ _ _ _ _ _ _ _ _ (at .1) (k .crescent-row .ensures) (c .before .before .before .before .before .before .before .before .before .before .before .clear-span-logged .ensures) (c .before .before .before .before .clear-span-logged2 .ensures)),
+          (crescent-row-is _ _ _ _ _ _ _ _ _ _ _ (at .1) (k .crescent-row .ensures) (c .before .before .before .before .before .before .before .before .before .before .before .clear-span-logged .ensures) (c .before .before .before .before .clear-span-logged2 .ensures)),
       next-base _ _ _ (at .1),
     )
 

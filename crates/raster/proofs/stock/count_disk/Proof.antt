@@ -1,13 +1,12 @@
 -- `raster::stock::count_disk` meets its contract. The invariant: the count is what the rows so far leave, the next row begins at cell `base`, and no more is counted than cells before it. Assumes nothing.
-use mathlib.Core.Path.{_≡_, refl, sym, subst}
+use mathlib.Core.Path.{_≡_, refl}
 use Prim.Native.Nat.{_-_, _≤_, _<_, _+_, _*_}
 use native.Mathlib.Omega.{arith}
 use Rattle.loops.proofs.CellLaws.{row-below}
 use Rattle.loops.proofs.LoopLaws.{Going, going-none, going-more, going-end}
 use Rattle.raster.specs.Sweep.{diskAt}
 use Rattle.raster.specs.Stock.{tally, countDisk}
-use Rattle.raster.specs.declared.disk.Rows.{Rows}
-use Rattle.raster.proofs.RowLaws.{InRow, chord-in, in-map, next-base, rows-below}
+use Rattle.raster.proofs.RowLaws.{InRow, chord-within, in-map, next-base, last-within}
 use Rattle.raster.proofs.SweepLaws.{disk-row-is, disk-is}
 use Rattle.raster.proofs.StockLaws.{row-most}
 use borrow.Author.Needs.{needs}
@@ -22,14 +21,14 @@ abbrev μ-loop : tie.MeasureT-loop
 
 -- the last row is one of the grid's
 last-row : (c : tie.After-rows-of Inv-loop μ-loop) → c .rows-of .result .1 < c .before .before .args .g .ny
-last-row c = subst (λ (q : Rows). q .1 < c .before .before .args .g .ny) (sym (c .rows-of .ensures)) (rows-below _ _ _ (c .before .before .pre .sides .high))
+last-row c = last-within _ _ _ _ (c .rows-of .ensures) (c .before .before .pre .sides .high)
 
 -- in a turn the row is one of the grid's, and its span lies in it
 row : (c : tie.In-loop Inv-loop μ-loop) → c .before .loop .j < c .before .before .before .before .before .args .g .ny
 row c = omega (arith, c .loop-test .taken, last-row (c .before .before .before))
 
 within : (c : tie.After-chord Inv-loop μ-loop) → InRow (c .before .before .before .before .before .before .args .g .nx) (c .chord .result)
-within c = subst (InRow (c .before .before .before .before .before .before .args .g .nx)) (sym (c .chord .ensures)) (chord-in _ _ _ _ (c .before .before .before .before .before .before .pre .sides))
+within c = chord-within _ _ _ _ _ (c .chord .ensures) (c .before .before .before .before .before .before .pre .sides)
 
 rows-of-requires : tie.Need-rows-of-requires Inv-loop μ-loop
 rows-of-requires c κs = search needs
