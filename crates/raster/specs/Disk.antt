@@ -43,7 +43,7 @@ chordOf g c r2 j =
     let i1 = floorOf (cellAt (add binary64 (c .x) h) (g .origin .x) (g .cell)) in
     cond (lt h2 f0) Empty (colsOf i0 i1 (g .nx))
 
--- each row squares the radius
+-- as in the Rust, which squares the radius in each row
 unfoldable pub diskRow : Grid → Vec2 → Float → ℕ → Span
 diskRow g c r j = chordOf g c (mul binary64 r r) j
 

@@ -12,7 +12,7 @@ pub enum Span {
     Cols(usize, usize),
 }
 
-// The first row and the last.
+// The first row and the last. Of a disk that reaches no row the first may come after the last, as far as usize goes.
 pub struct Rows(pub usize, pub usize);
 
 // The columns of a row in a crescent: at most two spans.
