@@ -4,7 +4,7 @@ use mathlib.Core.Path.{_≡_, refl, sym, ap, _∙_}
 use mathlib.Core.Bool.{Bool, true, false, _&&_, _||_}
 use mathlib.Core.List.{List}
 use Prim.Native.Nat.{ℕ, zero, suc, _+_, _-_, _*_, _≤_, _<_, min}
-use native.Mathlib.Nat.{add-mul, mul-le-mul-right}
+use native.Mathlib.Nat.{mul-le-mul-right}
 use native.Mathlib.Omega.{arith}
 use lib.ListN.{getD}
 use lib.Seq.{getD-set-same, getD-set-other}
@@ -30,7 +30,7 @@ use Rattle.raster.specs.declared.grid.Grid.{Grid}
 use Rattle.raster.specs.declared.disk.Crescent.{Crescent}
 use Rattle.raster.specs.declared.disk.Span.{Span}
 use Rattle.raster.specs.declared.disk.Span.the-variants.{Empty, Cols}
-use Rattle.raster.proofs.RowLaws.{InRow, first-number, first-below, or-last, disk-in, crescent-in}
+use Rattle.raster.proofs.RowLaws.{InRow, first-number, first-below, or-last, next-base, disk-in, crescent-in}
 use Rattle.raster.proofs.SweepLaws.{disk-image}
 use Rattle.raster.proofs.StockLaws.{bit-one, bit-none, clear-disk-removed}
 use Rattle.raster.proofs.LogLaws.{cell-cases, Kept, kept-none, kept-taken, room-left}
@@ -59,7 +59,7 @@ module _ {S : Type 0} (f : ℕ → S → S) (P : ℕ → S → Type 0) (mono : (
   row-mono nx k l s h p = mono (k * nx) (l * nx) s (mul-le-mul-right nx h) p
 
   next-row : (nx j : ℕ) (s : S) → P (j * nx + nx) s → P ((j + 1) * nx) s
-  next-row nx j s p = let l : (j + 1) * nx ≡ j * nx + 1 * nx = add-mul j 1 nx in mono (j * nx + nx) ((j + 1) * nx) s (omega arith) p
+  next-row nx j s p = mono (j * nx + nx) ((j + 1) * nx) s (omega (arith, next-base j nx (j * nx) refl)) p
 
   module _ (g : Grid) (sides : Sides g) where
     pub disk-rise : (c : Vec2) (r : Float) (n : ℕ) (s : S) → rowsOf g c r .0 ≤ n → rowsOf g c r .1 + 1 ≤ n → P (rowsOf g c r .0 * g .nx) s → P (n * g .nx) (overDisk f g c r s)

@@ -57,7 +57,7 @@ loop-less c = omega (arith, c .before .before .loop-test .taken)
 
 loop-again : tie.Need-loop-again Inv-loop μ-loop
 loop-again c = (
-  going-more _ _ _ _ _ _ _ (c .before .before .before .loop .inv .0) (c .before .before .loop-test .taken) (disk-row-is _ _ _ _ _ _ _ _ _ refl (c .before .chord .ensures) (c .count-span .ensures)),
+  going-more _ _ _ _ _ _ _ (c .before .before .before .loop .inv .0) (c .before .before .loop-test .taken) (disk-row-is _ _ _ (c .before .before .before .before .before .before .args .r) _ _ _ _ _ refl (c .before .chord .ensures) (c .count-span .ensures)),
   omega (arith, row-most _ _ _ _ _ _ (within (c .before)) (c .before .before .before .loop .inv .1) (c .count-span .ensures), next-base (c .before .before .before .loop .j) (c .before .before .before .before .before .before .args .g .nx) _ refl),
 )
 

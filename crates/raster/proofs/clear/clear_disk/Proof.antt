@@ -80,7 +80,7 @@ loop-less c = omega (arith, c .before .before .before .before .before .loop-test
 loop-again : tie.Need-loop-again Inv-loop μ-loop
 loop-again c =
     let at = c .before .before .before .before .before .before .loop .inv in (
-      going-more _ _ _ _ _ _ _ (at .0) (c .before .before .before .before .before .loop-test .taken) (disk-row-is _ _ _ _ _ _ _ _ _ (at .1) (c .before .before .before .before .chord .ensures) (c .before .before .drop-span .ensures)),
+      going-more _ _ _ _ _ _ _ (at .0) (c .before .before .before .before .before .loop-test .taken) (disk-row-is _ _ _ (c .before .before .before .before .before .before .before .before .before .before .args .r) _ _ _ _ _ (at .1) (c .before .before .before .before .chord .ensures) (c .before .before .drop-span .ensures)),
       next-base _ _ _ (at .1),
     )
 

@@ -93,7 +93,7 @@ loop-again c =
     let k = c .before .before .before .before .before .before .before .before .before .before .before .before .before .before in
     let at = k .before .before .loop .inv in (
       going-more _ _ _ _ _ _ _ (at .0) (k .before .loop-test .taken)
-          (crescent-row-is _ _ _ _ _ _ _ _ _ _ _ (at .1) (k .crescent-row .ensures) (c .before .before .before .before .before .before .before .before .before .before .before .clear-span-logged .ensures) (c .before .before .before .before .clear-span-logged2 .ensures)),
+          (crescent-row-is _ _ _ _ (k .before .before .before .before .before .before .before .args .r) _ _ _ _ _ _ (at .1) (k .crescent-row .ensures) (c .before .before .before .before .before .before .before .before .before .before .before .clear-span-logged .ensures) (c .before .before .before .before .clear-span-logged2 .ensures)),
       next-base _ _ _ (at .1),
     )
 

@@ -69,7 +69,7 @@ loop-less c = omega (arith, c .before .before .loop-test .taken)
 loop-again : tie.Need-loop-again Inv-loop μ-loop
 loop-again c =
     let at = c .before .before .before .loop .inv in (
-      going-more _ _ _ _ _ _ _ (at .0) (c .before .before .loop-test .taken) (disk-row-is _ _ _ _ _ _ _ _ _ (at .1) (c .before .chord .ensures) (c .count-span .ensures)),
+      going-more _ _ _ _ _ _ _ (at .0) (c .before .before .loop-test .taken) (disk-row-is _ _ _ (c .before .before .before .before .before .before .before .args .r) _ _ _ _ _ (at .1) (c .before .chord .ensures) (c .count-span .ensures)),
       next-base _ _ _ (at .1),
       row-most _ _ _ _ _ _ (within (c .before)) (at .2) (c .count-span .ensures),
     )
