@@ -168,9 +168,9 @@ pocket_number pocket_contact_angle(size_t hits, size_t samples);
 /* The cell that holds a point; `found` is false off the grid. */
 pocket_cell pocket_cell_of(pocket_grid grid, pocket_point point);
 
-/* Sets the cells of a region, outer loop and islands, by the even-odd rule; the other cells stay. 12 also for a vertex
- * beyond +-20,000; then 13: 1 to 65 loops of 3 or more vertices, 4,096 vertices in all, as many as are lent. The answer
- * is `refused`. */
+/* Sets the cells whose centres are in a region: in its outer loop and in no island, within each loop by the even-odd
+ * rule; the other cells stay. 12 also for a vertex beyond +-20,000; then 13: 1 to 65 loops of 3 or more vertices, 4,096
+ * vertices in all, as many as are lent. The answer is `refused`. */
 uint32_t pocket_fill_region(pocket_grid grid, uint8_t *map, size_t map_len, const double *vertices,
                             size_t vertices_len, const uint32_t *lengths, size_t lengths_len);
 

@@ -3,7 +3,7 @@ ghost use mathlib.Core.Path.{_≡_};
 ghost use Prim.Native.Nat.{_+_, _*_, _≤_};
 ghost use lib.ListN.{length};
 ghost use Rattle.geom.specs.Vec.{v2, dotOf, crossOf, perpOf, distanceOf, lengthOf, normalizedOf, fromAngle, lerpOf};
-ghost use Rattle.geom.specs.Region.{Held, Grown, pointInLoop, containsOf, boundsOf, crossingsOf, vertexCount};
+ghost use Rattle.geom.specs.Region.{Held, pointInLoop, containsOf, boundsOf};
 ghost use Rattle.geom.specs.Segment.{segDistance, anyWithin};
 ghost use Rattle.abi.specs.Geom.{region, put2, put4};
 use geom::region::Region;
@@ -165,21 +165,4 @@ pub extern "C" fn geom_bounds(
     out[1] = lo.y;
     out[2] = hi.x;
     out[3] = hi.y;
-}
-
-#[no_mangle]
-pub extern "C" fn geom_crossings(
-    vs: &[f64],
-    lens: &[u32],
-    at: usize,
-    first: usize,
-    loops: usize,
-    y: f64,
-    xs: &mut [f64],
-) -> usize
-    requires { ⌜ Held (now vs) (now lens) (region at first loops) ⌝ }
-    requires { ⌜ vertexCount (now lens) (region at first loops) ≤ length (now xs) ⌝ }
-    ensures { λ r. ⌜ Grown (crossingsOf (now (vs .entry)) (now (lens .entry)) (region at first loops) y) (vertexCount (now (lens .entry)) (region at first loops)) (now (xs .entry)) r (now (xs .exit)) ⌝ }
-{
-    geom::crossings::crossings(vs, lens, Region { at, first, loops }, y, xs)
 }

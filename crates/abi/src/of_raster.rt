@@ -10,8 +10,8 @@ ghost use Rattle.raster.specs.Disk.{diskRow};
 ghost use Rattle.raster.specs.Stock.{cl, clearDisk, countDisk, intersection};
 ghost use Rattle.raster.specs.Log.{st, Ready, Logged, clearAfter, undone, redone};
 ghost use Rattle.raster.specs.Contact.{samplesOf, rimContact, angleOf, Rim, rimmed};
-ghost use Rattle.raster.specs.Fill.{fillRegion};
-ghost use Rattle.geom.specs.Region.{Held, vertexCount};
+ghost use Rattle.filling.specs.Fill.{fillRegion};
+ghost use Rattle.geom.specs.Region.{Held};
 ghost use Rattle.abi.specs.Geom.{region, put2};
 ghost use Rattle.abi.specs.Raster.{grid, packedGrid, cornerPut, packedCell, packedSpan};
 use geom::region::Region;
@@ -361,11 +361,9 @@ pub extern "C" fn raster_fill_region(
     at: usize,
     first: usize,
     loops: usize,
-    xs: &mut [f64],
 )
     requires { ⌜ Over (grid ox oy cell nx ny) (length (now map)) ⌝ }
     requires { ⌜ Held (now vs) (now lens) (region at first loops) ⌝ }
-    requires { ⌜ vertexCount (now lens) (region at first loops) ≤ length (now xs) ⌝ }
     ensures { λ _. ⌜ now (map .exit) ≡ fillRegion (grid ox oy cell nx ny) (now (vs .entry)) (now (lens .entry)) (region at first loops) (now (map .entry)) ⌝ }
 {
     let origin = Vec2 { x: ox, y: oy };
@@ -375,5 +373,6 @@ pub extern "C" fn raster_fill_region(
         nx,
         ny,
     };
-    raster::fill::fill_region(g, map, vs, lens, Region { at, first, loops }, xs);
+    let mut xs = [0.0; 4096];
+    filling::region::fill_region(g, map, vs, lens, Region { at, first, loops }, &mut xs);
 }

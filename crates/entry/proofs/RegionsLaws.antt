@@ -8,7 +8,7 @@ use lib.ListN.{length, getD}
 use lib.Ieee.{Float}
 use Rattle.loops.specs.Loop.{loop}
 use Rattle.loops.proofs.LoopLaws.{loop-none, loop-more, loop-split, loop-keeps}
-use Rattle.geom.specs.Region.{startOf, sizeOf, vertexCount, Held}
+use Rattle.geom.specs.Region.{startOf, sizeOf, Held}
 use Rattle.geom.specs.declared.region.Region.{Region}
 use Rattle.geom.proofs.RegionLaws.{region, start-first, start-next}
 use Rattle.entry.specs.Regions.{sumTo, regionAt, pocketOf, AllHeld}
@@ -68,9 +68,6 @@ module _ (vs : List Float) (lens regions : List ℕ) (h : AllHeld vs lens region
   pub held-is : Held vs lens r
   held-is = subst (Held vs lens) (sym e) (h .held k b)
 
-  pub few-is : vertexCount lens r ≤ 4096
-  few-is = subst (λ (q : Region). vertexCount lens q ≤ 4096) (sym e) (h .few k b)
-
 -- ---- regions whose loops and vertices add up to what is lent are held
 
 pub sum-le : (l : List ℕ) (k n : ℕ) → k ≤ n → sumTo l k ≤ sumTo l n
@@ -90,10 +87,9 @@ module _ (vs : List Float) (lens regions : List ℕ) (loops : sumTo regions (len
       let far = sum-le lens (sumTo regions (k + 1)) (length lens) (omega arith) in
       (omega arith, omega arith)
 
-  pub all-held : 0 < length regions → ((k : ℕ) → k < length regions → 0 < getD regions k 0) → 2 * sumTo lens (length lens) ≤ length vs → sumTo lens (length lens) ≤ 4096 → AllHeld vs lens regions
+  pub all-held : 0 < length regions → ((k : ℕ) → k < length regions → 0 < getD regions k 0) → 2 * sumTo lens (length lens) ≤ length vs → AllHeld vs lens regions
   unfolding regionAt
-  all-held some each vertices few = record {
+  all-held some each vertices = record {
     some = some;
     held = λ k b. let e = region-end k b in record { some = each k b; sizes = e .0; vertices = omega (arith, e .1) };
-    few = λ k b. omega (arith, region-end k b .1);
   }

@@ -131,11 +131,10 @@ module _ (whole : Bool) (vs : List Float) (lens regions : List ℕ) (h : shapesF
   pub shapes-held : AllHeld vs lens regions
   shapes-held =
       let w = both (leb (sumOf lens) 4096) (eqb (2 * sumOf lens) (length vs)) (vertices .1) in
-      let few : sumTo lens (length lens) ≤ 4096 = leb-true (sumOf lens) 4096 (w .0) in
       let long : 2 * sumTo lens (length lens) ≡ length vs = eqb-true (2 * sumOf lens) (length vs) (w .1) in
       let sum = all-loops whole lens regions (shapes .0) in
       all-held vs lens regions (omega (arith, sum)) (omega (arith, some-regions whole lens regions (shapes .0))) (λ k b. each-region whole lens regions (shapes .0) k b .0)
-      (omega (arith, long)) few
+      (omega (arith, long))
 
   -- the pocket's outer loop has vertices
   pub outer-some : 0 < sizeOf lens (pocketOf lens regions) 0

@@ -1,10 +1,10 @@
 -- A job's regions as they are lent: `lens` has the vertices of each loop, `regions` the loops of each region, the pocket first. Definitions only.
-use Prim.Native.Nat.{ℕ, _+_, _≤_, _<_}
+use Prim.Native.Nat.{ℕ, _+_, _<_}
 use mathlib.Core.List.{List}
 use lib.ListN.{length, getD}
 use lib.Ieee.{Float}
 use Rattle.loops.specs.Loop.{loop}
-use Rattle.geom.specs.Region.{Held, vertexCount}
+use Rattle.geom.specs.Region.{Held}
 use Rattle.geom.specs.declared.region.Region.{Region}
 
 -- the sum of the first k numbers, and of all
@@ -21,8 +21,7 @@ regionAt lens regions k = record { at = sumTo lens (sumTo regions k); first = su
 abbrev pub pocketOf : List ℕ → List ℕ → Region
 pocketOf lens regions = regionAt lens regions 0
 
--- all regions are lent, and none has more vertices than the scratch for a row's crossings has places
+-- all regions are lent
 pub record AllHeld (vs : List Float) (lens regions : List ℕ) : Type 0 where
   pub some : 0 < length regions
   pub held : (k : ℕ) → k < length regions → Held vs lens (regionAt lens regions k)
-  pub few : (k : ℕ) → k < length regions → vertexCount lens (regionAt lens regions k) ≤ 4096

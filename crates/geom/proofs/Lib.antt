@@ -1,4 +1,3 @@
 pub mod PointLaws
 pub mod RegionLaws
-pub mod CrossingLaws
 pub mod SegmentLaws

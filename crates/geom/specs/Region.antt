@@ -1,9 +1,8 @@
 -- Loops and regions over lent vertices, as geom.rs has them. A loop is n vertices from the vertex `at` on. Definitions only.
 use Prim.Native.Nat.{ℕ, _+_, _-_, _*_, _≤_, _<_}
 use mathlib.Core.Bool.{Bool, true, false, not, _&&_, Bool·beq, cond}
-use mathlib.Core.List.{List, [], _∷_, _++_}
-use mathlib.Core.Path.{_≡_}
-use lib.ListN.{length, take, getD}
+use mathlib.Core.List.{List}
+use lib.ListN.{length, getD}
 use lib.Dec.{eqb}
 use lib.Ieee.{Float, nan, inf, binary64, add, sub, mul, div, lt}
 use Rattle.loops.specs.Loop.{loop, any}
@@ -75,31 +74,3 @@ loopBounds vs at n = loop (λ i c. widened (vertexOf vs (at + i)) c) 0 n (corner
 
 unfoldable pub boundsOf : List Float → List ℕ → Region → Corners
 boundsOf vs lens g = loopBounds vs (startOf lens g 0) (sizeOf lens g 0)
-
--- ---- the crossings of a row with the edges, as `fill_region` of raster.rs gathers them
-
--- the edges go from each vertex to the next, in the order of `segments`
-unfoldable pub crossed : List Float → ℕ → ℕ → Float → ℕ → List Float → List Float
-crossed vs at n y i xs =
-    let a = vertexOf vs (at + i) in
-    let b = vertexOf vs (at + after n i) in
-    cond (straddlesOf a b y) (xs ++ (crossingOf a b y ∷ [])) xs
-
-unfoldable pub loopCrossings : List Float → ℕ → ℕ → Float → List Float → List Float
-loopCrossings vs at n y xs = loop (crossed vs at n y) 0 n xs
-
-unfoldable pub crossingsIn : List Float → List ℕ → Region → Float → ℕ → List Float → List Float
-crossingsIn vs lens g y l xs = loopCrossings vs (startOf lens g l) (sizeOf lens g l) y xs
-
-unfoldable pub crossingsOf : List Float → List ℕ → Region → Float → List Float
-crossingsOf vs lens g y = loop (crossingsIn vs lens g y) 0 (g .loops) []
-
--- how many vertices the region has
-abbrev pub vertexCount : List ℕ → Region → ℕ
-vertexCount lens g = startOf lens g (g .loops) - g .at
-
--- the r first of ys are the list l, at most m of them; ys is as long as xs, and nothing else is said of it
-pub record Grown (l : List Float) (m : ℕ) (xs : List Float) (r : ℕ) (ys : List Float) : Type 0 where
-  pub is : take r ys ≡ l
-  pub few : r ≤ m
-  pub long : length ys ≡ length xs

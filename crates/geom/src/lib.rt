@@ -1,5 +1,4 @@
 // Planar geometry (geom.rs of the Rust): vectors, and loops and regions over lent vertices.
-pub mod crossings;
 pub mod points;
 pub mod region;
 pub mod segment;

@@ -3,9 +3,8 @@ ghost use mathlib.Core.Path.{_≡_};
 ghost use Prim.Native.Nat.{_+_, _*_, _≤_, _<_};
 ghost use lib.ListN.{length};
 ghost use Rattle.numbers.specs.Bound.{Bounds};
-ghost use Rattle.geom.specs.Region.{Held};
+ghost use Rattle.geom.specs.Region.{after, Held};
 ghost use Rattle.geom.specs.Segment.{along, segSquare, segDistance, edgeWithin, loopWithin, anyWithin};
-use super::crossings::next;
 use super::region::Region;
 use super::region::size;
 use super::region::vertex;
@@ -37,6 +36,14 @@ pub fn seg_distance(p: Vec2, a: Vec2, b: Vec2) -> f64
     ensures { λ r. ⌜ r ≡ segDistance p a b ⌝ }
 {
     numbers::root::sqrt(seg_square(p, a, b))
+}
+
+// The vertex after vertex i of a loop of n.
+fn next(n: usize, i: usize) -> usize
+    requires { ⌜ i < n ⌝ }
+    ensures { λ r. ⌜ (r ≡ after n i) × (r < n) ⌝ }
+{
+    if i + 1 == n { 0 } else { i + 1 }
 }
 
 // Whether the edge passes within r of p, whose bound is given: no root is taken.

@@ -11,7 +11,7 @@ use Rattle.geom.specs.Points.{points}
 use Rattle.geom.specs.declared.vec2.Vec2.{Vec2}
 use Rattle.raster.specs.Grid.{Over}
 use Rattle.raster.specs.Contact.{samplesOf, Rim}
-use Rattle.setup.specs.Layout.{pathFrom, rimFrom, crossingsFrom, pathEnd}
+use Rattle.setup.specs.Layout.{pathFrom, rimFrom, columnsFrom, pathEnd}
 use Rattle.setup.specs.Place.{Walls, cellsOf}
 use Rattle.setup.specs.declared.Setup.{Setup}
 use Rattle.links.specs.declared.lattice.Lattice.{Lattice}
@@ -80,7 +80,7 @@ abbrev pub pathIn : Setup → List Float → List Float
 pathIn s w = within (pathFrom (cellsOf s)) (pathEnd (cellsOf s)) w
 
 abbrev pub rimIn : Setup → List Float → List Float
-rimIn s w = within (rimFrom (cellsOf s)) (crossingsFrom (cellsOf s)) w
+rimIn s w = within (rimFrom (cellsOf s)) (columnsFrom (cellsOf s)) w
 
 -- whether a straight feed is clear, by what the workspace holds
 abbrev pub clearIn : Setup → List Float → List ℕ → List ℕ → List Float → Vec2 → Vec2 → Bool

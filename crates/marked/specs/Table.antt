@@ -19,7 +19,7 @@ use Rattle.raster.specs.Stock.{clearDisk}
 use Rattle.raster.specs.Log.{Stock, st, clearAfter, undone}
 use Rattle.raster.specs.Contact.{samplesOf, rimContact, angleOf}
 use Rattle.raster.specs.declared.contact.Contact.{Contact}
-use Rattle.raster.specs.Fill.{fillRegion}
+use Rattle.filling.specs.Fill.{fillRegion}
 use Rattle.raster.specs.declared.grid.Grid.{Grid}
 use Rattle.raster.specs.declared.grid.Raster.the-variants.{Of}
 use Rattle.raster.specs.declared.grid.Found.the-variants.{Nothing, At}

@@ -9,12 +9,12 @@ use lib.Dec.{eqb, leb}
 use lib.Ieee.{Float}
 use borrow.Author.Tests.{leb-true, eqb-true}
 use Rattle.loops.proofs.Cases.{both}
-use Rattle.geom.specs.Region.{Held, vertexCount}
+use Rattle.geom.specs.Region.{Held}
 use Rattle.raster.specs.Grid.{Over}
 use Rattle.raster.specs.declared.grid.Grid.{Grid}
 use Rattle.entry.specs.Regions.{sumTo, sumOf, AllHeld}
 use Rattle.entry.specs.Questions.{allFrom, verticesFit}
-use Rattle.entry.proofs.RegionsLaws.{sum-none, sum-more, pocket-is, held-is, few-is, all-held}
+use Rattle.entry.proofs.RegionsLaws.{sum-none, sum-more, pocket-is, held-is, all-held}
 use Rattle.pocket.specs.Ranges.{coordinatesFit, gridFit}
 use Rattle.pocket.specs.Refusals.{ask, sizeRefusal, shapeFit, fillRefusal}
 use Rattle.pocket.specs.Leaves.{oneRegion}
@@ -56,13 +56,10 @@ module _ (vs : List Float) (lens : List ℕ) (h : shapeFit vs lens ≡ true) whe
       let w = both few exact (tests .1) in
       let sum : 2 * sumTo lens (length lens) ≡ length vs = eqb-true (2 * sumOf lens) (length vs) (w .1) in
       let whole : sumTo one 1 ≤ length lens = omega (arith, sum-none one, sum-more one 0) in
-      all-held vs lens one whole (omega arith) (λ k b. subst (λ (i : ℕ). 0 < getD one i 0) (let z : 0 ≡ k = omega arith in z) (omega arith)) (omega arith) (leb-true (sumOf lens) 4096 (w .0))
+      all-held vs lens one whole (omega arith) (λ k b. subst (λ (i : ℕ). 0 < getD one i 0) (let z : 0 ≡ k = omega arith in z) (omega arith)) (omega arith)
 
   pub shape-held : Held vs lens (oneRegion lens)
   shape-held = held-is vs lens one shape-all 0 (omega arith) (oneRegion lens) (pocket-is lens one)
-
-  pub shape-vertices : vertexCount lens (oneRegion lens) ≤ 4096
-  shape-vertices = few-is vs lens one shape-all 0 (omega arith) (oneRegion lens) (pocket-is lens one)
 
 pub fill-none : (g : Grid) (vs : List Float) (lens : List ℕ) (long : ℕ) → fillRefusal g vs lens long ≡ 0 → (shapeFit vs lens ≡ true) × Over g long
 unfolding fillRefusal

@@ -19,7 +19,7 @@ use Rattle.raster.specs.Grid.{cellOf}
 use Rattle.raster.specs.Stock.{clearDisk, countDisk}
 use Rattle.raster.specs.Log.{st, clearAfter, undone, redone}
 use Rattle.raster.specs.Contact.{rimContact, angleOf}
-use Rattle.raster.specs.Fill.{fillRegion}
+use Rattle.filling.specs.Fill.{fillRegion}
 use Rattle.raster.specs.declared.grid.Grid.{Grid}
 use Rattle.raster.specs.declared.grid.Found.{Found}
 use Rattle.raster.specs.declared.grid.Found.the-variants as found

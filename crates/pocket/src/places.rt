@@ -81,7 +81,7 @@ pub fn fill_region(g: Grid, map: &mut [u8], vs: &[f64], lens: &[u32]) -> Done
         loops: lens.len(),
     };
     let mut xs = [0.0; 4096];
-    raster::fill::fill_region(g, map, vs, lens, region, &mut xs);
+    filling::region::fill_region(g, map, vs, lens, region, &mut xs);
     Done::Finished
 }
 

@@ -10,6 +10,3 @@ pub mod RunLaws
 pub mod PaintLaws
 pub mod ClearLaws
 pub mod OrderLaws
-pub mod SortLaws
-pub mod FillLaws
-pub mod FilledLaws

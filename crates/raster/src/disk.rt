@@ -28,20 +28,20 @@ pub fn row_y(g: Grid, j: usize) -> f64
 }
 
 // A coordinate as a fractional cell number: the centre of cell i is at i.
-pub fn place(x: f64, o: f64, cell: f64) -> f64
+fn place(x: f64, o: f64, cell: f64) -> f64
     ensures { λ r. ⌜ r ≡ cellAt x o cell ⌝ }
 {
     (x - o) / cell - 0.5
 }
 
 // The first whole cell number from x on.
-pub fn first_from(x: f64) -> f64
+fn first_from(x: f64) -> f64
     ensures { λ r. ⌜ r ≡ firstFrom x ⌝ }
 {
     numbers::order::max(numbers::whole::ceil(x), 0.0)
 }
 
-pub fn at_most_last(i: usize, n: usize) -> usize
+fn at_most_last(i: usize, n: usize) -> usize
     ensures { λ r. ⌜ r ≡ min i (n - 1) ⌝ }
 {
     if i < n {

@@ -3,8 +3,6 @@
 pub mod clear;
 pub mod contact;
 pub mod disk;
-pub mod fill;
 pub mod grid;
 pub mod log;
-mod sort;
 pub mod stock;

@@ -106,9 +106,9 @@ pathEnd n = 23 * n
 abbrev pub rimFrom : ℕ → ℕ
 rimFrom n = 32 * n
 
--- where a row crosses the region, one number for each vertex
-abbrev pub crossingsFrom : ℕ → ℕ
-crossingsFrom n = 32 * n + 4096
+-- where the columns of a raster are, one number for each
+abbrev pub columnsFrom : ℕ → ℕ
+columnsFrom n = 32 * n + 4096
 
 -- ---- the table
 
@@ -146,7 +146,7 @@ doubles n =
     ∷ at (estimatesFrom n) (9 * n)
     ∷ at (pathFrom n) (3 * n)
     ∷ at (rimFrom n) 4096
-    ∷ at (crossingsFrom n) 4096
+    ∷ at (columnsFrom n) 4096
     ∷ []
 
 -- each region begins at `from` or later and behind the one before it, and the last ends within `size`

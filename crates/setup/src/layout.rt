@@ -4,7 +4,7 @@ ghost use Prim.Native.Nat.{_*_, _≤_};
 ghost use Rattle.raster.specs.Grid.{Sides};
 ghost use Rattle.setup.specs.Layout.{most, allowedFrom, reachFrom, abandonedFrom, dirtyFrom, insideFrom, marksFrom};
 ghost use Rattle.setup.specs.Layout.{nearFrom, beforeFrom, segmentsFrom, logFrom};
-ghost use Rattle.setup.specs.Layout.{ringFrom, tracedFrom, guideFrom, costFrom, pathFrom, rimFrom, crossingsFrom};
+ghost use Rattle.setup.specs.Layout.{ringFrom, tracedFrom, guideFrom, costFrom, pathFrom, rimFrom, columnsFrom};
 use raster::grid::Grid;
 
 // A raster's cells.
@@ -135,9 +135,9 @@ pub fn rim(n: usize) -> usize
     32 * n
 }
 
-pub fn crossings(n: usize) -> usize
+pub fn columns(n: usize) -> usize
     requires { ⌜ n ≤ most ⌝ }
-    ensures { λ r. ⌜ r ≡ crossingsFrom n ⌝ }
+    ensures { λ r. ⌜ r ≡ columnsFrom n ⌝ }
 {
     32 * n + 4096
 }

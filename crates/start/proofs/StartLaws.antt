@@ -16,7 +16,7 @@ use Rattle.raster.specs.Grid.{Sides}
 use Rattle.raster.specs.Contact.{samplesOf, Rim, rimmed}
 use Rattle.raster.specs.declared.grid.Grid.{Grid}
 use Rattle.raster.proofs.ContactLaws.{rim-long}
-use Rattle.setup.specs.Layout.{run, rimFrom, crossingsFrom, Lent}
+use Rattle.setup.specs.Layout.{run, rimFrom, columnsFrom, Lent}
 use Rattle.setup.specs.Place.{cellsOf}
 use Rattle.setup.specs.declared.Setup.{Setup}
 use Rattle.setup.proofs.LayoutLaws.{run-put}
@@ -32,7 +32,7 @@ pub samples-most : (n : ℕ) → n ≤ 2048 → samplesOf n ≤ 2048
 unfolding samplesOf
 samples-most n h = omega arith
 
-module _ (s : Setup) (w t : List Float) (n a e m : ℕ) (N : n ≡ cellsOf s) (A : a ≡ rimFrom n) (E : e ≡ crossingsFrom n) (M : m ≡ samplesOf (s .samples)) (h : 32 * cellsOf s + 8192 ≤ length w) where
+module _ (s : Setup) (w t : List Float) (n a e m : ℕ) (N : n ≡ cellsOf s) (A : a ≡ rimFrom n) (E : e ≡ columnsFrom n) (M : m ≡ samplesOf (s .samples)) (h : 32 * cellsOf s + 8192 ≤ length w) where
   rim-fits : Fits a e w
   rim-fits = record { start = omega arith; end = omega arith }
 
@@ -46,7 +46,7 @@ module _ (s : Setup) (w t : List Float) (n a e m : ℕ) (N : n ≡ cellsOf s) (A
       let l : length t ≡ length (take (e - a) (drop a w)) = ap length T ∙ rim-long m 0 m (take (e - a) (drop a w)) in
       let back = back-there a e w rim-fits t l in
       let from : a ≡ rimFrom (cellsOf s) = A ∙ ap rimFrom N in
-      let to : e ≡ crossingsFrom (cellsOf s) = E ∙ ap crossingsFrom N in
+      let to : e ≡ columnsFrom (cellsOf s) = E ∙ ap columnsFrom N in
       let there : rimIn s (putMid a (e - a) w t) ≡ t =
       sym (ap (λ (z : ℕ). within z e (putMid a (e - a) w t)) from ∙ ap (λ (z : ℕ). within (rimFrom (cellsOf s)) z (putMid a (e - a) w t)) to) ∙ back in
       record {

@@ -17,11 +17,10 @@ use Rattle.loops.proofs.SetLaws.{set-either}
 use Rattle.geom.specs.declared.region.Region.{Region}
 use Rattle.distance.specs.Nearest.{listed}
 use Rattle.distance.proofs.NearestLaws.{listed-long}
-use Rattle.raster.specs.Fill.{setCell, pairAt, fillPair, fillRow, rowCrossings, fillAt, fillRegion}
+use Rattle.filling.specs.Fill.{fillRegion}
 use Rattle.raster.specs.Stock.{keepCell, intersection}
 use Rattle.raster.specs.declared.grid.Grid.{Grid}
-use Rattle.raster.proofs.FillLaws.{rows-long}
-use Rattle.raster.proofs.SweepLaws.{keep-span}
+use Rattle.filling.proofs.FillLaws.{fill-long, fill-keeps}
 use Rattle.field.proofs.RoundLaws.{writeAt, written-all}
 use Rattle.setup.specs.Layout.{run, putRun}
 use Rattle.setup.proofs.LayoutLaws.{run-put, run-other}
@@ -33,17 +32,13 @@ use Rattle.start.proofs.WriteLaws.{writeFrom, read-run, listed-self, ze
 
 -- ---- lengths
 
-pub region-fill-long : (g : Grid) (vs : List Float) (lens : List ℕ) (region : Region) (m : List ℕ) → length (fillRegion g vs lens region m) ≡ length m
-unfolding fillRegion
-region-fill-long g vs lens region m = rows-long g vs lens region 0 (g .ny) m
-
 pub inside-long : (g : Grid) (vs : List Float) (lens : List ℕ) (region : Region) → length (insideOf g vs lens region) ≡ g .ny * g .nx
 unfolding insideOf
-inside-long g vs lens region = region-fill-long g vs lens region (replicate (g .ny * g .nx) 0) ∙ length-replicate (g .ny * g .nx) 0
+inside-long g vs lens region = fill-long g vs lens region (replicate (g .ny * g .nx) 0) ∙ length-replicate (g .ny * g .nx) 0
 
 pub adding-long : (g : Grid) (vs : List Float) (lens regions : List ℕ) (a e : ℕ) (m : List ℕ) → length (loop (addRegion g vs lens regions) a e m) ≡ length m
 unfolding addRegion
-adding-long g vs lens regions a e m = loop-keeps (addRegion g vs lens regions) a (λ (l : List ℕ). length l ≡ length m) e (λ i l b c h. region-fill-long g vs lens _ l ∙ h) m refl
+adding-long g vs lens regions a e m = loop-keeps (addRegion g vs lens regions) a (λ (l : List ℕ). length l ≡ length m) e (λ i l b c h. fill-long g vs lens _ l ∙ h) m refl
 
 pub added-long : (g : Grid) (vs : List Float) (lens regions m : List ℕ) → length (addRegions g vs lens regions m) ≡ length m
 unfolding addRegions
@@ -214,11 +209,7 @@ set-bits : (v : ℕ) → v ≤ 1 → (i : ℕ) (m : List ℕ) → Bits m → Bit
 set-bits v b i m h k = set-either (λ (x : ℕ). x ≤ 1) m i k v 0 b (h k)
 
 pub fill-bits : (g : Grid) (vs : List Float) (lens : List ℕ) (region : Region) (m : List ℕ) → Bits m → Bits (fillRegion g vs lens region m)
-unfolding fillRegion fillAt fillRow fillPair
-fill-bits g vs lens region m h =
-    loop-keeps (fillAt g vs lens region) 0 Bits (g .ny)
-    (λ j l a b q. loop-keeps (fillPair g j (rowCrossings g vs lens region j)) 0 Bits _ (λ p k c d r. keep-span setCell Bits (set-bits 1 (omega arith)) (j * g .nx) (pairAt g (rowCrossings g vs lens region j) p) k r) l q)
-    m h
+fill-bits g vs lens region m h = fill-keeps g vs lens region Bits (λ k l q. set-bits 1 (omega arith) k l q) m h
 
 zero-bits : (n : ℕ) → Bits (zeros n)
 zero-bits zero k = omega arith

@@ -15,7 +15,7 @@ use Rattle.geom.specs.declared.region.Region.{Region}
 use Rattle.distance.specs.Nearest.{listed}
 use Rattle.distance.specs.Rooted.{distanceTransform}
 use Rattle.raster.specs.Grid.{centerOf}
-use Rattle.raster.specs.Fill.{fillRegion}
+use Rattle.filling.specs.Fill.{fillRegion}
 use Rattle.raster.specs.Stock.{intersection}
 use Rattle.raster.specs.declared.grid.Grid.{Grid}
 use Rattle.setup.specs.Layout.{mapIn, allowedIn, dirtyIn, logIn}

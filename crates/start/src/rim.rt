@@ -21,7 +21,7 @@ pub fn rim(s: Setup, w: &mut [f64])
 {
     let n = layout::cells(s.grid);
     let a = layout::rim(n);
-    let e = layout::crossings(n);
+    let e = layout::columns(n);
     let m = samples_of(s.samples);
     fill_rim(&mut w[a..e], m);
 }

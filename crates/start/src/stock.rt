@@ -2,18 +2,18 @@
 ghost use mathlib.Core.Path.{_≡_};
 ghost use Prim.Native.Nat.{_+_, _*_, _^_, _≤_, _<_};
 ghost use lib.ListN.{length, replicate};
-ghost use Rattle.geom.specs.Region.{Held, startOf, vertexCount};
+ghost use Rattle.geom.specs.Region.{Held, startOf};
 ghost use Rattle.distance.specs.Nearest.{listed};
 ghost use Rattle.raster.specs.Grid.{Sides, Over};
-ghost use Rattle.raster.specs.Fill.{fillRegion};
+ghost use Rattle.filling.specs.Fill.{fillRegion};
 ghost use Rattle.setup.specs.Layout.{most, putRun, mapPut};
 ghost use Rattle.workspace.specs.Standing.{abandonedIn, abandonedPut};
 ghost use Rattle.entry.specs.Regions.{pocketOf, AllHeld};
 ghost use Rattle.start.specs.Start.{addRegions};
 ghost use Rattle.start.specs.Steps.{insideIn, stockByte, stockAt, Filled, Stocked};
+use filling::region::fill_region;
 use geom::region::Region;
 use geom::region::size;
-use raster::fill::fill_region;
 use raster::grid::Grid;
 use setup::fill::fill_bytes;
 use setup::layout;
@@ -64,7 +64,6 @@ fn add_regions(
 fn fill_inside(g: Grid, vs: &[f64], lens: &[u32], pocket: Region, b: &mut [u8], w: &mut [f64])
     requires { ⌜ Sides g ⌝ }
     requires { ⌜ Held (now vs) (now lens) pocket ⌝ }
-    requires { ⌜ vertexCount (now lens) pocket ≤ 4096 ⌝ }
     requires { ⌜ 8 * (g .ny * g .nx) ≤ length (now b) ⌝ }
     requires { ⌜ 32 * (g .ny * g .nx) + 8192 ≤ length (now w) ⌝ }
     ensures { λ _. ⌜ now (b .exit) ≡ putRun 5 (g .ny * g .nx) (fillRegion g (now (vs .entry)) (now (lens .entry)) pocket (insideIn (g .ny * g .nx) (now (b .entry)))) (now (b .entry)) ⌝ }
@@ -72,7 +71,7 @@ fn fill_inside(g: Grid, vs: &[f64], lens: &[u32], pocket: Region, b: &mut [u8], 
     let n = layout::cells(g);
     let a = layout::inside(n);
     let e = a + n;
-    let x = layout::crossings(n);
+    let x = layout::columns(n);
     let y = x + 4096;
     fill_region(g, &mut b[a..e], vs, lens, pocket, &mut w[x..y]);
 }
@@ -97,7 +96,7 @@ fn fill_stock(
     let n = layout::cells(g);
     let a = layout::abandoned(n);
     let e = a + n;
-    let x = layout::crossings(n);
+    let x = layout::columns(n);
     let y = x + 4096;
     add_regions(g, vs, lens, regions, pocket, &mut b[a..e], &mut w[x..y]);
 }

@@ -14,11 +14,11 @@ use Rattle.loops.proofs.Cases.{both}
 use Rattle.loops.proofs.LoopLaws.{loop-keeps}
 use Rattle.distance.specs.Nearest.{transformOf}
 use Rattle.geom.specs.Vec.{f0}
-use Rattle.geom.specs.Region.{startOf, vertexCount, Held}
+use Rattle.geom.specs.Region.{startOf, Held}
 use Rattle.geom.specs.declared.vec2.Vec2.{Vec2}
 use Rattle.raster.specs.Log.{Stock, st, Ready, Logged, clearAfter, undone, passes}
 use Rattle.raster.specs.Contact.{rimContact, angleOf}
-use Rattle.raster.specs.Fill.{fillRegion}
+use Rattle.filling.specs.Fill.{fillRegion}
 use Rattle.raster.specs.declared.contact.Contact as counted
 use Rattle.raster.specs.declared.grid.Grid.{Grid}
 use Rattle.raster.proofs.RunLaws.{logged-run}
@@ -105,9 +105,6 @@ unfolding verticesOf
 held-three a b c s vs z h e l =
     let n = ap length e ∙ vertices-long s 48 z ∙ l in
     record { some = omega arith; sizes = omega arith; vertices = omega (arith, vertices-in a b c, n) }
-
-pub few-vertices : (a b c : ℕ) → a + b + c ≤ 24 → vertexCount (a ∷ b ∷ c ∷ []) threeLoops ≤ 24
-few-vertices a b c h = omega (arith, vertices-in a b c)
 
 pub filled-is : (g : Grid) (vs : List Float) (v lens m m′ : List ℕ) (z : List Float) → vs ≡ verticesOf v z → m′ ≡ fillRegion g vs lens threeLoops m
     → m′ ≡ fillRegion g (verticesOf v z) lens threeLoops m

@@ -12,7 +12,7 @@ use Rattle.geom.specs.declared.vec2.Vec2.{Vec2}
 use Rattle.geom.specs.declared.region.Region.{Region}
 use Rattle.raster.specs.Log.{Stock, st, clearAfter, undone}
 use Rattle.raster.specs.Contact.{rimContact, angleOf}
-use Rattle.raster.specs.Fill.{fillRegion}
+use Rattle.filling.specs.Fill.{fillRegion}
 use Rattle.raster.specs.declared.grid.Grid.{Grid}
 use Rattle.vectors_maps.specs.Print.{rootsOf}
 use Rattle.prints.specs.Print.{printOf}

@@ -6,16 +6,16 @@ ghost use mathlib.Core.List.{[], _∷_};
 ghost use lib.ListN.{length, replicate};
 ghost use Rattle.geom.specs.Vec.{f0};
 ghost use Rattle.raster.specs.Grid.{Over};
-ghost use Rattle.raster.specs.Fill.{fillRegion};
+ghost use Rattle.filling.specs.Fill.{fillRegion};
 ghost use Rattle.vectors_maps.specs.Maps.{Small};
 ghost use Rattle.vectors_maps.specs.Answers.{verticesOf, threeLoops, Fill};
 use super::Judged;
 use super::maps::grid;
 use super::maps::make;
 use bits::float;
+use filling::region::fill_region;
 use geom::region::Region;
 use prints::of_map;
-use raster::fill::fill_region;
 use raster::grid::Grid;
 use raster::stock::count;
 
@@ -42,7 +42,7 @@ fn filled(g: Grid, s: &[u64; 64], a: u32, b: u32, c: u32, map: &mut [u8])
     ensures { λ _. ⌜ now (map .exit) ≡ fillRegion g (verticesOf (now (s .entry)) (replicate 48 f0)) (a ∷ b ∷ c ∷ []) threeLoops (now (map .entry)) ⌝ }
 {
     let mut vs = [0.0f64; 48];
-    let mut xs = [0.0f64; 24];
+    let mut xs = [0.0f64; 4096];
     vertices(s, &mut vs);
     let lens = [a, b, c];
     let region = Region {

@@ -1,6 +1,6 @@
 //! Jobs of all kinds, drawn for a comparison at scale.
 use crate::extreme::{damaged, torn};
-use crate::planned::{compared, compared_raw, trimmed};
+use crate::planned::{Same, compared, compared_raw, trimmed};
 use crate::raw::Raw;
 use oracle::entry;
 use oracle::generate::{self, Rng};
@@ -8,10 +8,10 @@ use oracle::job::Job;
 use oracle::stored::small;
 
 /// The kinds of the generator, and those that are made here of its jobs: floats that are special, lists that are torn.
-pub const KINDS: usize = generate::KINDS.len() + 3;
+pub const KINDS: usize = generate::KINDS.len() + generate::NAMED.len() + 2;
 
 pub fn kind(k: usize) -> &'static str {
-    generate::KINDS.iter().chain(&["exact", "extreme", "torn"]).nth(k).unwrap()
+    generate::KINDS.iter().chain(&generate::NAMED).chain(&["extreme", "torn"]).nth(k).unwrap()
 }
 
 /// How large a job may be: at least this engagement, at most so many cells.
@@ -38,8 +38,8 @@ fn job(r: &mut Rng, kind: &str, size: Size) -> (Job, u64) {
     }
 }
 
-/// Draws a job by these bits and plans it on both sides: the answer's number, or the difference.
-pub fn drawn(bits: u64, kind: &str, size: Size) -> Result<u32, String> {
+/// Draws a job by these bits and plans it on both sides: how it was answered, or the difference.
+pub fn drawn(bits: u64, kind: &str, size: Size) -> Result<Same, String> {
     let mut r = Rng(bits);
     let (job, seed) = job(&mut r, kind, size);
     let answer = match kind {

@@ -49,18 +49,6 @@ mod linked {
             out: *mut f64,
             out_len: usize,
         );
-        pub fn geom_crossings(
-            vs: *const f64,
-            vs_len: usize,
-            lens: *const u32,
-            lens_len: usize,
-            at: usize,
-            first: usize,
-            loops: usize,
-            y: f64,
-            xs: *mut f64,
-            xs_len: usize,
-        ) -> usize;
     }
 }
 
@@ -194,27 +182,5 @@ impl Lent {
             );
         }
         (v2(out[0], out[1]), v2(out[2], out[3]))
-    }
-
-    /// The crossings of the row y in the order of the segments.
-    pub fn crossings(&self, y: f64) -> Vec<f64> {
-        self.held();
-        let mut xs = vec![0.0; self.vs.len() / 2];
-        let n = unsafe {
-            linked::geom_crossings(
-                self.vs.as_ptr(),
-                self.vs.len(),
-                self.lens.as_ptr(),
-                self.lens.len(),
-                self.at,
-                self.first,
-                self.loops,
-                y,
-                xs.as_mut_ptr(),
-                xs.len(),
-            )
-        };
-        xs.truncate(n);
-        xs
     }
 }

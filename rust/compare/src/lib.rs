@@ -5,7 +5,8 @@
 //! functions that are lent slices, and `planners` the planners whose fields are lent. `planner` has the call of whole
 //! jobs, `raw` a job as it is lent, `noisy` slices full of noise, `reserved` slices longer than memory, `planned` the comparison, `drawn` jobs of all kinds,
 //! `extreme` those at the limits of document 01. The tests compare bits, and `scale` does on many jobs; the programs
-//! `bench`, `bench_distance`, `bench_contours`, `bench_links`, `bench_cutting` and `bench_plans` time.
+//! `bench`, `bench_disks`, `bench_fill`, `bench_distance`, `bench_contours`, `bench_links`, `bench_cutting` and
+//! `bench_plans` time.
 pub mod bits;
 pub mod contours;
 pub mod cutting;

@@ -4,9 +4,10 @@ use crate::noisy::Noisy;
 use crate::planner::{Answer, Report, Slices, adaptive_clear, numbers, report};
 use crate::raw::Raw;
 use oracle::entry;
+use oracle::fills::{agree, expected};
 use oracle::generate::Rng;
 use oracle::job::{self, Job};
-use oracle::run::{Plan, run};
+use oracle::run::Plan;
 
 /// What a job is lent, and its answer.
 pub struct Planned {
@@ -120,11 +121,21 @@ fn shown(fault: String, job: &Job) -> String {
     format!("{fault}\n{}", job::write(job))
 }
 
-/// Plans the job on both sides: the number of the answer, 0 for accepted, or the difference and the job's text.
-pub fn compared(r: &mut Rng, job: &Job) -> Result<u32, String> {
+/// A job whose two plans are the same.
+#[derive(Clone, Copy, Debug)]
+pub struct Same {
+    /// The number of the answer, 0 for accepted.
+    pub number: u32,
+    /// Whether the print's fill sets the same cells as the changed one. Then the oracle's plan is the print's; else it is
+    /// made from the changed fill.
+    pub fills_agree: bool,
+}
+
+/// Plans the job on both sides: how it was answered, or the difference and the job's text.
+pub fn compared(r: &mut Rng, job: &Job) -> Result<Same, String> {
     let job = trimmed(job);
     let raw = Raw::varied(r, &job);
-    let (got, want) = (Planned::new(r, &raw), run(&job, false).answer);
+    let (got, want) = (Planned::new(r, &raw), expected(&job, false).answer);
     if let Some(fault) = got.fault(&want) {
         return Err(shown(fault, &job));
     }
@@ -132,20 +143,21 @@ pub fn compared(r: &mut Rng, job: &Job) -> Result<u32, String> {
     match got.answer.refused {
         16 if job.lent_triples == triples => Err(shown("more triples are needed than plenty".into(), &job)),
         17 if job.lent_rows == rows => Err(shown("more rows are needed than plenty".into(), &job)),
-        number => Ok(number),
+        number => Ok(Same { number, fills_agree: agree(&job) }),
     }
 }
 
 /// The same of a job as it is lent, which was made from `of`. Where its regions are no regions at all the answer is 13,
 /// if no earlier question is answered no.
-pub fn compared_raw(r: &mut Rng, raw: &Raw, of: &Job) -> Result<u32, String> {
-    let want = match raw.job(of) {
-        Some(job) => run(&job, false).answer,
+pub fn compared_raw(r: &mut Rng, raw: &Raw, of: &Job) -> Result<Same, String> {
+    let job = raw.job(of);
+    let want = match &job {
+        Some(job) => expected(job, false).answer,
         None => Err(entry::refused(of).map_or(13, |number| number.min(13))),
     };
     let got = Planned::new(r, raw);
     match got.fault(&want) {
         Some(fault) => Err(format!("{fault}\n{raw:?}")),
-        None => Ok(got.answer.refused),
+        None => Ok(Same { number: got.answer.refused, fills_agree: job.as_ref().is_none_or(agree) }),
     }
 }

@@ -132,8 +132,6 @@ mod linked {
             at: usize,
             first: usize,
             loops: usize,
-            xs: *mut f64,
-            xs_len: usize,
         );
     }
 }
@@ -282,10 +280,10 @@ impl Stock {
         unsafe { linked::raster_clear_again(m.as_mut_ptr(), m.len(), l.as_ptr(), l.len(), self.count) };
     }
 
+    /// Sets the cells whose centre is in the region by `contains`.
     pub fn fill_region(&mut self, lent: &Lent) {
         lent.held();
         let (o, m) = (self.origin, &mut self.map);
-        let mut xs = vec![0.0; lent.vs.len() / 2];
         unsafe {
             linked::raster_fill_region(
                 o.x,
@@ -302,8 +300,6 @@ impl Stock {
                 lent.at,
                 lent.first,
                 lent.loops,
-                xs.as_mut_ptr(),
-                xs.len(),
             );
         }
     }

@@ -24,8 +24,8 @@ fn limits_of_the_questions() {
 fn some(kind: &str, jobs: u64, answers: &[usize]) {
     let mut met = [0usize; 19];
     for bits in 0..jobs {
-        let number = drawn(bits, kind, Size { engagement: 35.0, cells: 8_000 });
-        met[number.unwrap_or_else(|fault| panic!("{fault}")) as usize] += 1;
+        let same = drawn(bits, kind, Size { engagement: 35.0, cells: 8_000 });
+        met[same.unwrap_or_else(|fault| panic!("{fault}")).number as usize] += 1;
     }
     println!("{kind}, by answer: {met:?}");
     assert!(answers.iter().all(|&answer| met[answer] > 0), "{met:?}");

@@ -145,21 +145,3 @@ fn boundaries_within_a_radius() {
     }
     assert!(yes > CALLS / 10 && yes < CALLS - CALLS / 10);
 }
-
-#[test]
-fn crossings_of_rows() {
-    let mut r = Rng(26);
-    for _ in 0..CALLS {
-        let g = region(&mut r);
-        let l = lent(&mut r, &g);
-        let y = near(&mut r, &g).y;
-        let mut want = Vec::new();
-        for (a, b) in g.segments() {
-            if (a.y > y) != (b.y > y) {
-                want.push(a.x + (y - a.y) / (b.y - a.y) * (b.x - a.x));
-            }
-        }
-        let bits = |xs: &[f64]| xs.iter().map(|x| x.bits()).collect::<Vec<_>>();
-        assert_eq!(bits(&l.crossings(y)), bits(&want), "{y} {g:?}");
-    }
-}

@@ -7,20 +7,23 @@ use oracle::job::Job;
 use oracle::run::{Plan, run};
 use oracle::stored::{names, small, stored};
 
-/// How many jobs had each answer, by number; 0 is accepted.
+/// How many jobs had each answer, by number, 0 for accepted: where the two fills agree, and where they disagree.
 #[derive(Default)]
-struct Met([usize; 19]);
+struct Met([[usize; 19]; 2]);
 
 impl Met {
     fn add(&mut self, r: &mut Rng, job: &Job, name: &str) {
-        let number = compared(r, job).unwrap_or_else(|fault| panic!("{name}: {fault}"));
-        self.0[number as usize] += 1;
+        let same = compared(r, job).unwrap_or_else(|fault| panic!("{name}: {fault}"));
+        self.0[!same.fills_agree as usize][same.number as usize] += 1;
     }
 
-    /// So many jobs, and every answer among them.
-    fn all(&self, jobs: usize) {
-        println!("{:?}", self.0);
-        assert!(self.0.iter().sum::<usize>() >= jobs && self.0.iter().all(|&met| met > 0), "{:?}", self.0);
+    /// So many jobs at least, every answer among them; and so many accepted where the fills agree and where they disagree.
+    fn all(&self, jobs: usize, accepted: [usize; 2]) {
+        let Met([agree, disagree]) = self;
+        let [first, second] = [agree, disagree].map(|met| met.iter().sum::<usize>());
+        println!("the fills agree on {first} jobs: {agree:?}\nthey disagree on {second}: {disagree:?}");
+        assert!(first + second >= jobs && agree.iter().zip(disagree).all(|(a, b)| a + b > 0));
+        assert!(agree[0] >= accepted[0] && disagree[0] >= accepted[1]);
     }
 }
 
@@ -30,10 +33,10 @@ fn stored_jobs() {
     for name in names() {
         met.add(&mut r, &stored(&name), &name);
     }
-    met.all(200);
+    met.all(200, [100, 20]);
 }
 
-/// Jobs of all kinds on small rasters; on the borders of the questions more.
+/// Jobs of all kinds on small rasters; on the borders of the questions more, and where the two fills part.
 #[test]
 fn generated_jobs() {
     let (mut r, mut met) = (Rng(52), Met::default());
@@ -42,6 +45,12 @@ fn generated_jobs() {
         (Some("malformed"), 5_000..5_350),
         (Some("lent"), 6_000..6_600),
         (Some("exact"), 7_000..7_200),
+        (Some("outisland"), 8_000..8_080),
+        (Some("nested"), 8_000..8_080),
+        (Some("bosses"), 8_000..8_080),
+        (Some("stockisles"), 8_000..8_080),
+        (Some("crossed"), 8_000..8_080),
+        (Some("crossisles"), 8_000..8_080),
     ] {
         for seed in seeds {
             let (job, kind) = generate::job(seed, kind).unwrap();
@@ -50,7 +59,7 @@ fn generated_jobs() {
             }
         }
     }
-    met.all(1_000);
+    met.all(1_000, [200, 100]);
 }
 
 /// A plan that is another one in a single place is told apart.

@@ -247,17 +247,64 @@ fn rim_points() {
     });
 }
 
-/// Regions around, over and off the grid, with corners on rows and columns of centres, and overlapping
-/// islands.
+/// Loops around, over and off the grid, most of them crossing themselves, with corners on rows and columns of centres;
+/// islands that overlap or lie in one another, and now and then one without vertices.
+fn region(r: &mut Rng, g: &Grid) -> Region {
+    let ring = |r: &mut Rng| (0..3 + r.below(6)).map(|_| point(r, g)).collect::<Vec<_>>();
+    let (outer, mut islands) = (ring(r), (0..r.below(3)).map(|_| ring(r)).collect::<Vec<_>>());
+    match r.below(4) {
+        0 => {
+            let around = islands.last().unwrap_or(&outer);
+            islands.push(around.iter().map(|p| p.lerp(around[0], 0.4)).collect());
+        }
+        1 => islands.insert(r.below(islands.len() as u64 + 1) as usize, Vec::new()),
+        _ => {}
+    }
+    Region { outer, islands }
+}
+
+/// A fill sets the changed fill's cells, which are the print's where the two agree, and no others.
 #[test]
 fn regions_filled() {
+    let (mut same, mut apart, mut within) = (0, 0, 0);
     each(37, CALLS, |r, mut stock, mut grid| {
-        let ring = |r: &mut Rng| (0..3 + r.below(6)).map(|_| point(r, &grid)).collect::<Vec<_>>();
-        let region = Region { outer: ring(r), islands: (0..r.below(3)).map(|_| ring(r)).collect() };
+        let region = region(r, &grid);
+        let empty = Grid { data: vec![false; grid.data.len()], ..grid.clone() };
+        let (mut printed, mut changed) = (empty.clone(), empty);
+        printed.fill_region_printed(&region, true);
+        changed.fill_region_each(&region, true);
+        within += (changed.count() > 0) as usize;
         stock.fill_region(&Lent::new(&region, r.below(3) as usize, r.below(3) as usize));
-        grid.fill_region(&region, true);
+        if printed.data == changed.data {
+            same += 1;
+            grid.fill_region_printed(&region, true);
+        } else {
+            apart += 1;
+            grid.data.iter_mut().zip(changed.data).for_each(|(cell, set)| *cell |= set);
+        }
         same_map(&stock, &grid);
     });
+    println!("the fills agree on {same} regions and disagree on {apart}; {within} of all have cells");
+    assert!(same > CALLS / 5 && apart > CALLS / 5 && within > CALLS / 2);
+}
+
+/// A fill goes by `contains` on every grid, also where a row's centres do not rise from column to column.
+#[test]
+fn regions_on_strange_grids() {
+    let around = |lo: f64, hi: f64| vec![v2(lo, lo), v2(hi, lo), v2(hi, hi), v2(lo, hi)];
+    let region = Region { outer: around(-6.0, 6.0), islands: vec![around(-2.0, 1.0), around(0.0, 3.0)] };
+    let (places, mut met) = ([0.0, 5.5, -3.0, f64::NAN, f64::INFINITY, f64::NEG_INFINITY], 0);
+    for cell in [1.0, -1.0, 0.0, -0.0, 1e-300, f64::MAX, f64::INFINITY, f64::NEG_INFINITY, f64::NAN] {
+        for (x, y) in places.into_iter().flat_map(|x| places.map(|y| (x, y))) {
+            let mut grid = Grid { origin: v2(x, y), cell, nx: 7, ny: 5, data: vec![false; 35] };
+            let mut stock = Stock::new(grid.origin, cell, 7, 5);
+            grid.fill_region_each(&region, true);
+            stock.fill_region(&Lent::new(&region, 0, 0));
+            same_map(&stock, &grid);
+            met += (grid.count() > 0) as usize;
+        }
+    }
+    assert!(met > 30, "{met}");
 }
 
 #[test]

@@ -26,6 +26,13 @@ pub const EDITS: &[Edit] = &[
     replace(0, "no other sine", ".sin()", ""),
     // `Grid::engagement` in ../src/rim.rs is this one, or the same bits from a table of directions.
     replace(1, "the printed form, sample by sample", "pub fn engagement(", "pub fn engagement_printed("),
+    // `Grid::fill_region` in ../src/fills.rs is this one, or the changed fill.
+    replace(
+        1,
+        "the printed form, even-odd over all loops",
+        "pub fn fill_region(",
+        "pub fn fill_region_printed(",
+    ),
     replace(2, "for the comparison", "pub(crate) fn", "pub fn"),
     publish(&["    data: Vec<bool>,\n}", "    fn disk_row", "    fn rows_of", "    fn crescent_row"]),
 ];

@@ -4,6 +4,7 @@
 //! what the print leaves open, the job format, a generator of jobs, and a replay written apart.
 pub mod circle;
 pub mod entry;
+pub mod fills;
 pub mod generate;
 pub mod hooks;
 pub mod job;

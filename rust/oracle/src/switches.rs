@@ -7,6 +7,8 @@ pub struct Switches {
     pub plain_rim: bool,
     /// Walls by the printed buckets; else every segment.
     pub buckets: bool,
+    /// Regions filled by `contains`, the changed fill; else even-odd over all loops, as printed.
+    pub fill_contains: bool,
     /// Wrong on purpose: on equal estimates the higher node number.
     pub higher_first: bool,
     /// Wrong on purpose: the first insert wins in the contour's edge map.
@@ -15,7 +17,13 @@ pub struct Switches {
 
 thread_local! {
     static SWITCHES: Cell<Switches> = const {
-        Cell::new(Switches { plain_rim: false, buckets: false, higher_first: false, first_wins: false })
+        Cell::new(Switches {
+            plain_rim: false,
+            buckets: false,
+            fill_contains: false,
+            higher_first: false,
+            first_wins: false,
+        })
     };
 }
 

@@ -1,4 +1,5 @@
 //! Every rule of term 3 by replay, on generated jobs; and that the replay finds damage.
+use oracle::fills::{agree, with_expected};
 use oracle::generate;
 use oracle::hooks::Event;
 use oracle::job::Job;
@@ -7,44 +8,73 @@ use oracle::run::{Outcome, Plan, print, run};
 use oracle::stored::{quick, stored};
 use oracle::switches::{self, Switches};
 use std::sync::OnceLock;
-use std::sync::atomic::{AtomicU64, Ordering};
+use std::sync::atomic::{AtomicUsize, Ordering};
 
-/// Jobs of all kinds, apart from the stored ones, on two threads.
+/// Jobs of all kinds, apart from the stored ones, on two threads; each by the fill that is expected, replay and all.
 #[test]
 fn generated_jobs_replay_without_a_fault() {
-    let seeds = 1000..1448;
-    let next = AtomicU64::new(seeds.start);
+    let mut seeds: Vec<(u64, Option<&str>)> = (1000..1448).map(|seed| (seed, None)).collect();
+    seeds.extend(generate::NAMED.iter().flat_map(|kind| (1000..1020).map(move |seed| (seed, Some(*kind)))));
+    let next = AtomicUsize::new(0);
     let worker = || {
-        let (mut jobs, mut accepted, mut events, mut withdrawn, mut links) = (0, 0, 0, 0, 0);
-        loop {
-            let seed = next.fetch_add(1, Ordering::Relaxed);
-            if !seeds.contains(&seed) {
-                return [jobs, accepted, events, withdrawn, links];
-            }
-            let (job, kind) = generate::job(seed, None).unwrap();
+        let mut met = [0; 6];
+        while let Some(&(seed, kind)) = seeds.get(next.fetch_add(1, Ordering::Relaxed)) {
+            let (job, kind) = generate::job(seed, kind).unwrap();
             if !quick(&job) {
                 continue;
             }
-            jobs += 1;
-            let outcome = run(&job, true);
-            let found = faults(&job, &outcome);
+            let (outcome, found) = with_expected(&job, || {
+                let outcome = run(&job, true);
+                let found = faults(&job, &outcome);
+                (outcome, found)
+            });
             assert!(found.is_empty(), "seed {seed} {kind}: {:?}", &found[..found.len().min(5)]);
+            met[0] += 1;
             if let Ok(plan) = &outcome.answer {
-                accepted += 1;
-                links += plan.report.links;
-                events += outcome.events.len();
-                withdrawn += outcome.events.iter().filter(|h| h.event == Event::Withdrawn).count();
+                let withdrawn = outcome.events.iter().filter(|h| h.event == Event::Withdrawn).count();
+                let changed = !agree(&job) && !plan.rows.is_empty();
+                for (met, more) in met[1..].iter_mut().zip([
+                    1,
+                    changed as usize,
+                    outcome.events.len(),
+                    withdrawn,
+                    plan.report.links,
+                ]) {
+                    *met += more;
+                }
             }
         }
+        met
     };
     let totals = std::thread::scope(|s| {
         let threads = [s.spawn(worker), s.spawn(worker)];
         threads.map(|t| t.join().unwrap()).into_iter().reduce(|a, b| std::array::from_fn(|k| a[k] + b[k]))
     });
-    let [jobs, accepted, events, withdrawn, links] = totals.unwrap();
-    println!("{jobs} jobs, {accepted} accepted, {events} events, {withdrawn} withdrawn, {links} links");
+    let [jobs, accepted, changed, events, withdrawn, links] = totals.unwrap();
+    println!(
+        "{jobs} jobs, {accepted} accepted, {changed} of them with rows where the fills disagree; {events} events, \
+         {withdrawn} withdrawn, {links} links"
+    );
     // Enough of each for the test to mean something.
-    assert!(jobs > 200 && accepted > 100 && events > 5_000 && withdrawn > 300 && links > 1000);
+    assert!(jobs > 200 && accepted > 100 && changed > 40);
+    assert!(events > 5_000 && withdrawn > 300 && links > 1000);
+}
+
+/// A plan made from the other fill's stock is found by the replay, either way.
+#[test]
+fn a_start_from_the_other_fill_is_found() {
+    let job = stored("00005-overlap");
+    let [printed, changed] =
+        [false, true].map(|fill_contains| Switches { fill_contains, ..Switches::default() });
+    for (planned, replayed) in [(printed, changed), (changed, printed)] {
+        switches::set(planned);
+        let outcome = run(&job, true);
+        assert!(faults(&job, &outcome).is_empty());
+        switches::set(replayed);
+        let bad = faults(&job, &outcome);
+        assert!(bad.iter().any(|fault| fault.contains("starting cells")), "{bad:?}");
+    }
+    switches::set(Switches::default());
 }
 
 /// A plan with passes withdrawn, a helix place given up, a link refused, plunges and links.

@@ -101,11 +101,19 @@ fn the_raster_is_the_oracles() {
 fn sample_jobs_are_read() {
     let names: Vec<String> =
         files("../../jobs").iter().map(|f| f.file_stem().unwrap().to_string_lossy().into_owned()).collect();
-    assert_eq!(names, ["enclosure-side", "faceplate", "open-side", "refused", "small"]);
+    assert_eq!(names, ["boss", "enclosure-side", "faceplate", "open-side", "refused", "small"]);
     for file in files("../../jobs") {
         let raw = parse(&fs::read_to_string(&file).unwrap()).unwrap();
         assert!(raw.shapes().is_some());
     }
+}
+
+/// Cells of 0.1 mm: the pocket has 560 by 400, the bars 280 by 80 and 80 by 200, with 80 by 80 in common.
+#[test]
+fn the_overlap_of_two_islands_is_no_stock() {
+    let file = Path::new(env!("CARGO_MANIFEST_DIR")).join("../../jobs/boss.job");
+    let plan = parse(&fs::read_to_string(file).unwrap()).unwrap().plan().unwrap();
+    assert_eq!(plan.report.starting_cells, 560 * 400 - 280 * 80 - 80 * 200 + 80 * 80);
 }
 
 /// The indented texts of a document.

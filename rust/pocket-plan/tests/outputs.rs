@@ -233,6 +233,31 @@ fn the_picture_shows_each_part() {
     assert!((2..=9).contains(&passes), "{passes}");
 }
 
+/// Each island of a region is hidden by a path of its own, so that the overlap of two is; the pocket's are shown as far as
+/// its outer loop.
+#[test]
+fn the_picture_of_overlapping_islands() {
+    let text = "diameter 4\nresolution 0.06\nengagement 80\npocket 4 4 4 4\nstock 1\nregion 3 3 3\nverts 25\n\
+        0 0\n14 0\n14 10\n0 10\n9 5\n11 5\n11 7\n9 7\n10 6\n12 6\n12 8\n10 8\n13 9\n15 9\n15 11\n13 11\n\
+        0 0\n14 0\n0 10\n1 1\n3 1\n1 3\n2 1\n4 1\n2 3\n";
+    let svg = picture::svg(&scene("boss.job", text));
+    tags(&svg);
+    let between = |from: &str, to: &str| {
+        let (_, rest) = svg.split_once(from).unwrap_or_else(|| panic!("no {from}"));
+        rest.split_once(to).unwrap_or_else(|| panic!("no {to}")).0.to_string()
+    };
+    let loops = |part: &str| part.matches("z\"/>").count();
+    let mask = between("<mask id=\"stock0\"", "</mask>");
+    assert_eq!((loops(&mask), mask.matches('z').count()), (2, 2));
+    let stock = between("mask=\"url(#stock0)\" d=\"", "\"/>");
+    assert_eq!(stock.matches('z').count(), 1);
+    let islands = between("<path class=\"left\"", "<path class=\"wall\"");
+    let (_, clipped) = islands.split_once("<g clip-path=\"url(#pocket)\">").unwrap();
+    let (edges, fills) = clipped.split_at(clipped.find("class=\"island\"").unwrap());
+    assert_eq!((edges.matches("class=\"edge\"").count(), fills.matches("class=\"island\"").count()), (3, 3));
+    assert_eq!(loops(clipped), 6);
+}
+
 #[test]
 fn pictures_of_little() {
     // Three equal vertices, an empty stock list, and a pocket far from zero.

@@ -129,7 +129,7 @@ impl Map {
         linked::cell_of(self.grid, point)
     }
 
-    /// Sets the cells of a region by the even-odd rule.
+    /// Sets the cells whose centre is in a region: in its outer loop, and in none of its islands.
     pub fn fill_region(&mut self, shape: &Shape) -> Result<(), Refusal> {
         let vertices: Vec<f64> = shape.loops().flatten().flat_map(|p| [p.x, p.y]).collect();
         let lengths: Vec<u32> = shape.loops().map(|l| u32::try_from(l.len()).unwrap_or(u32::MAX)).collect();

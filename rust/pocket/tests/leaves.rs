@@ -277,6 +277,17 @@ fn loops_of_a_region() {
     assert_eq!(filled(&[f64::NAN; 6], &[3]), 12);
 }
 
+/// Two islands of 4 cells with one in common are one boss of 7.
+#[test]
+fn islands_that_overlap() {
+    let rect = |lo: f64, hi: f64| [[lo, lo], [hi, lo], [hi, hi], [lo, hi]];
+    let boss = pocket::Shape::new(&rect(0.0, 5.0)).island(&rect(1.0, 3.0)).island(&rect(2.0, 4.0));
+    let mut map = Map { grid: GRID, bytes: vec![0; 25] };
+    assert_eq!(map.fill_region(&boss), Ok(()));
+    assert_eq!(map.standing(), Ok(18));
+    assert_eq!(map.bytes[2 * 5 + 2], 0);
+}
+
 #[test]
 fn distances_have_room() {
     let marks = [1; 25];

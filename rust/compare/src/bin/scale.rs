@@ -3,6 +3,7 @@
 //! there is none.
 use compare::drawn::{KINDS, Size, drawn, kind};
 use compare::extreme::cases;
+use compare::planned::Same;
 use oracle::generate::Rng;
 use std::process::ExitCode;
 use std::sync::Mutex;
@@ -21,17 +22,17 @@ struct Asked {
     threads: usize,
 }
 
-/// How often each kind was answered by each number, 0 for accepted; and what differed.
-#[derive(Default)]
+/// How often each kind was answered by each number, 0 for accepted, where the two fills agree and where they disagree; and
+/// what differed.
 struct Tally {
-    answers: [[usize; 19]; KINDS],
+    answers: [[[usize; 19]; KINDS]; 2],
     differences: usize,
 }
 
 impl Tally {
-    fn add(&mut self, k: usize, answer: Result<u32, String>) {
+    fn add(&mut self, k: usize, answer: Result<Same, String>) {
         match answer {
-            Ok(number) => self.answers[k][number as usize] += 1,
+            Ok(same) => self.answers[!same.fills_agree as usize][k][same.number as usize] += 1,
             Err(fault) => {
                 self.differences += 1;
                 println!("difference {}: {fault}", self.differences);
@@ -41,22 +42,34 @@ impl Tally {
 
     fn print(&self) {
         println!(
-            "{:12} {:>6} {:>9} {:>8} {:>6} {:>6} {:>6}",
-            "kind", "jobs", "accepted", "1 to 15", "16", "17", "18"
+            "{:12} {:>6} {:>9} {:>8} {:>6} {:>6} {:>6} {:>15}",
+            "kind", "jobs", "accepted", "1 to 15", "16", "17", "18", "fills disagree"
         );
-        for (k, by) in self.answers.iter().enumerate() {
+        let [agree, disagree] = &self.answers;
+        for k in 0..KINDS {
+            let by: [usize; 19] = std::array::from_fn(|n| agree[k][n] + disagree[k][n]);
             let early: usize = by[1..16].iter().sum();
-            let all: usize = by.iter().sum();
-            println!("{:12} {all:6} {:9} {early:8} {:6} {:6} {:6}", kind(k), by[0], by[16], by[17], by[18]);
+            let [all, other]: [usize; 2] = [by, disagree[k]].map(|by| by.iter().sum());
+            let name = kind(k);
+            println!(
+                "{name:12} {all:6} {:9} {early:8} {:6} {:6} {:6} {other:15}",
+                by[0], by[16], by[17], by[18]
+            );
         }
-        let total = |number: usize| self.answers.iter().map(|by| by[number]).sum::<usize>();
+        let sum =
+            |side: &[[usize; 19]; KINDS], number: usize| side.iter().map(|by| by[number]).sum::<usize>();
+        let total = |number: usize| sum(agree, number) + sum(disagree, number);
         let numbers: Vec<String> = (1..19).map(|n| format!("{n}: {}", total(n))).collect();
         println!("accepted {}, refused by {}", total(0), numbers.join(", "));
+        for (what, side) in [("agree, as printed", agree), ("disagree, as changed", disagree)] {
+            let jobs: usize = side.iter().flatten().sum();
+            println!("the fills {what}: {jobs} jobs, {} accepted", sum(side, 0));
+        }
     }
 }
 
 fn asked(words: &[String]) -> Option<Asked> {
-    let mut asked = Asked { jobs: 5_800, seed: 1, threads: 1 };
+    let mut asked = Asked { jobs: 6_800, seed: 1, threads: 1 };
     for pair in words.chunks(2) {
         let value = pair.get(1)?.parse().ok()?;
         match pair[0].as_str() {
@@ -71,7 +84,8 @@ fn asked(words: &[String]) -> Option<Asked> {
 
 /// Every kind in turn. What a job is depends on the seed and its number alone.
 fn plan_all(asked: &Asked) -> Tally {
-    let (next, tally) = (AtomicUsize::new(0), Mutex::new(Tally::default()));
+    let (next, tally) =
+        (AtomicUsize::new(0), Mutex::new(Tally { answers: [[[0; 19]; KINDS]; 2], differences: 0 }));
     let work = || {
         loop {
             let job = next.fetch_add(1, Ordering::Relaxed);

@@ -1,7 +1,7 @@
-//! Writes the published planner's answers on maps, one call a line, for the program `vectors_maps` to replay
-//! where there is no Rust: a word, its arguments and the answer, each number in hexadecimal digits, a float its
-//! bits, any NaN the same one. A map is made from a seed, and an answer that is a map, a log or a list is a
-//! fingerprint; crates/vectors_maps/README.md has both formulas.
+//! Writes the oracle's answers on maps, one call a line, for the program `vectors_maps` to replay where there is no
+//! Rust: a word, its arguments and the answer, each number in hexadecimal digits, a float its bits, any NaN the same
+//! one. They are the published planner's; of a fill, those of the changed one. A map is made from a seed, and an answer
+//! that is a map, a log or a list is a fingerprint; crates/vectors_maps/README.md has both formulas.
 use compare::bits::Bits;
 use compare::prints::{fingerprint, mix};
 use oracle::generate::Rng;
@@ -66,10 +66,11 @@ fn crescent(map: &Map, from: Vec2, to: Vec2, r: f64) -> String {
     line("crescent", words)
 }
 
-/// An outer loop and up to two islands.
+/// An outer loop and up to two islands, by the changed fill.
 fn fill(map: &Map, region: &Region) -> String {
     let mut grid = map.grid.clone();
-    grid.fill_region(region, true);
+    assert!(grid.cell > 0.0);
+    grid.fill_region_each(region, true);
     let none = Vec::new();
     let loops =
         [Some(&region.outer), region.islands.first(), region.islands.get(1)].map(|l| l.unwrap_or(&none));

@@ -1,10 +1,11 @@
-//! Writes the published planner's answers to a few stored jobs, as the program `vectors_plans` writes its own:
+//! Writes the oracle's expected answers to a few stored jobs, as the program `vectors_plans` writes its own:
 //! crates/vectors_plans/README.md has the lines.
 use compare::bits::Bits;
 use compare::planner::{numbers, report};
 use compare::prints::fingerprint;
+use oracle::fills::expected;
 use oracle::job::Job;
-use oracle::run::{Plan, run};
+use oracle::run::Plan;
 use oracle::stored::stored;
 use oracle::vec2::v2;
 
@@ -25,7 +26,7 @@ fn slice(numbers: Vec<u64>, lent: usize, long: usize, seven: u64) -> u64 {
 /// The lines of a job with so many numbers lent for rows and triples.
 fn lines(mut job: Job, rows: usize, triples: usize) {
     (job.lent_rows, job.lent_triples) = (rows / 3, triples / 3);
-    let plan = run(&job, false).answer;
+    let plan = expected(&job, false).answer;
     let mut words = match &plan {
         Ok(plan) => [&[0][..], &numbers(&report(&plan.report))].concat(),
         Err(n) => vec![*n as u64],

@@ -43,8 +43,8 @@ impl Case {
     /// The answer is the document's and, with all that is lent, the oracle's.
     pub fn check(&self, r: &mut Rng) -> Result<(), String> {
         match compared_raw(r, &self.raw, &self.of) {
-            Ok(number) if number == self.want => Ok(()),
-            Ok(number) => Err(format!("{}: answer {number}, not {}", self.name, self.want)),
+            Ok(same) if same.number == self.want => Ok(()),
+            Ok(same) => Err(format!("{}: answer {}, not {}", self.name, same.number, self.want)),
             Err(fault) => Err(format!("{}: {fault}", self.name)),
         }
     }

@@ -1,25 +1,26 @@
 //! oracle [OPTION...] JOB...      plans jobs and prints the answers
-//! oracle --fingerprint JOB...    one line a job: name, answer, FNV-1a of the whole answer's text
+//! oracle --fingerprint JOB...    one line a job: name, expected answer, FNV-1a of the whole answer's text
 //! oracle --derived FILE          prints a derived source (adaptive.rs, raster.rs, geom.rs, error.rs)
 use oracle::hooks::Event;
 use oracle::job::{self, hex};
 use oracle::run::{self, Outcome};
 use oracle::switches::{self, Switches};
-use oracle::{DERIVED, replay};
+use oracle::{DERIVED, fills, replay};
 use std::path::Path;
 use std::process::ExitCode;
 
-const USAGE: &str = "oracle [--brief] [--trace] [--replay] [--time] [--plain-rim] [--buckets] [--higher-first] [--first-wins] JOB...
+const USAGE: &str = "oracle [--brief] [--trace] [--replay] [--time] [--plain-rim] [--buckets] [--fill-contains] [--higher-first] [--first-wins] JOB...
   --brief         no rows or triples
   --trace         the events, before the answer
   --replay        the faults found by replay
   --time          time of the whole in CPU nanoseconds, and of the phases
   --plain-rim     sine and cosine at each sample, as printed (the same bits, slower)
   --buckets       walls by the printed buckets (else every segment, as document 01 asks)
+  --fill-contains regions filled by `contains`, the replay's too (else even-odd, as printed)
   --higher-first  wrong on purpose: the higher node number on equal estimates
   --first-wins    wrong on purpose: the first insert wins in the contour's edge map
 oracle --fingerprint JOB...
-  one line a job: name, answer, FNV-1a (64 bits) of the whole text
+  one line a job: name, answer, FNV-1a (64 bits) of the whole text; where the two fills disagree on a cell, by `contains`
 oracle --derived FILE
   a derived source: adaptive.rs, raster.rs, geom.rs, error.rs";
 
@@ -37,6 +38,7 @@ fn main() -> ExitCode {
             "--fingerprint" => short = true,
             "--plain-rim" => how.plain_rim = true,
             "--buckets" => how.buckets = true,
+            "--fill-contains" => how.fill_contains = true,
             "--higher-first" => how.higher_first = true,
             "--first-wins" => how.first_wins = true,
             "--derived" => return derived(&words.next().unwrap_or_default()),
@@ -56,7 +58,7 @@ fn main() -> ExitCode {
             Err(e) => return fail(&format!("{file}: {e}")),
         };
         if short {
-            let text = run::print(&run::run(&job, false), false);
+            let text = run::print(&fills::expected(&job, false), false);
             let name = Path::new(file).file_stem().unwrap_or_default().display();
             println!("{name} {}", run::fingerprint_line(&text));
             continue;

@@ -43,7 +43,11 @@ pub const KINDS: [&str; 26] = [
     "rotrect",
 ];
 
-/// Only by name: the tracing level is exactly a field value, so that contours meet in a corner.
+/// Only by name. Of `exact` the tracing level is exactly a field value, so that contours meet in a corner; the others are
+/// where the two fills part: islands in islands, islands that overlap or reach over the outer loop, the same in stock,
+/// outer loops and islands that cross themselves.
+pub const NAMED: [&str; 6] = [EXACT, "nested", "bosses", "stockisles", "crossed", "crossisles"];
+
 const EXACT: &str = "exact";
 
 /// The job of a seed and its kind. Positions of the kinds in `KINDS` and every draw are fixed: the
@@ -54,10 +58,10 @@ pub fn job(seed: u64, kind: Option<&str>) -> Result<(Job, &'static str), String>
     let kind = match kind {
         Some(k) => KINDS
             .iter()
-            .chain(&[EXACT])
+            .chain(&NAMED)
             .find(|n| **n == k)
             .copied()
-            .ok_or_else(|| format!("the kinds are {} {EXACT}", KINDS.join(" ")))?,
+            .ok_or_else(|| format!("the kinds are {} {}", KINDS.join(" "), NAMED.join(" ")))?,
         None => KINDS[(seed % KINDS.len() as u64) as usize],
     };
     let mut p = params(r);

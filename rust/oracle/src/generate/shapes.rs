@@ -34,6 +34,40 @@ pub fn turn(l: &mut [Vec2], a: f64) {
     }
 }
 
+/// A loop that crosses itself: a star drawn in one line, or a bow tie.
+fn crossing(c: Vec2, radius: f64, r: &mut Rng) -> Loop {
+    let (n, order): (usize, &[usize]) = match r.below(3) {
+        0 => (5, &[0, 2, 4, 1, 3]),
+        1 => (7, &[0, 3, 6, 2, 5, 1, 4]),
+        _ => (4, &[0, 1, 3, 2]),
+    };
+    let points = ring(c, radius, n, r.range(0.0, TAU));
+    order.iter().map(|&k| points[k]).collect()
+}
+
+/// A rectangle whose upper edge makes a turn inwards and goes on a little higher; what the turn encloses is outside.
+fn curled(a: f64, b: f64, d: f64, r: &mut Rng) -> Loop {
+    let (x0, x1) = (a * r.range(-0.8, 0.2), a * r.range(0.4, 0.8));
+    let (low, high) = (b - d * r.range(0.05, 0.4), b + d * r.range(0.01, 0.1));
+    vec![v2(-a, -b), v2(a, -b), v2(a, b), v2(x0, b), v2(x0, low), v2(x1, low), v2(x1, high), v2(-a, high)]
+}
+
+/// Two or three islands about a place, in one another or overlapping.
+fn bosses(c: Vec2, size: f64, r: &mut Rng) -> Vec<Loop> {
+    let mut loops = vec![ring(c, size, r.below(6) as usize + 3, r.range(0.0, TAU))];
+    for _ in 0..r.below(2) + 1 {
+        let (far, share) = if r.chance(0.5) { (0.1, r.range(0.2, 0.6)) } else { (0.9, r.range(0.4, 1.0)) };
+        let off = v2(r.range(-far, far), r.range(-far, far)) * size;
+        loops.push(ring(c + off, size * share, r.below(6) as usize + 3, r.range(0.0, TAU)));
+    }
+    loops
+}
+
+/// A place towards a corner of a pocket with these half sides, up to the corner itself: the tool gets past an island there.
+fn cornered(a: f64, b: f64, r: &mut Rng) -> Vec2 {
+    v2(a * r.range(0.5, 1.0) * r.pick(&[-1.0, 1.0]), b * r.range(0.5, 1.0) * r.pick(&[-1.0, 1.0]))
+}
+
 /// Puts the loops into a job.
 pub fn add(j: &mut Job, loops: Vec<Loop>, stock: Option<Vec<Vec<Loop>>>) {
     j.pocket = loops.iter().map(|l| l.len()).collect();
@@ -282,6 +316,54 @@ pub fn shape(kind: &str, j: &mut Job, r: &mut Rng) -> Shape {
             let mut l = rect(-a, -b, a, b);
             turn(&mut l, r.range(0.0, TAU));
             loops = vec![l];
+        }
+        "nested" => {
+            let (a, b) = (d * r.range(0.7, 1.0), d * r.range(0.7, 1.0));
+            loops = vec![rect(-a, -b, a, b)];
+            let (c, n) = (cornered(a, b, r), r.below(8) as usize + 3);
+            let mut size = d * r.range(0.15, 0.45);
+            for _ in 0..r.below(3) + 2 {
+                loops.push(ring(c, size, n, 0.2));
+                size *= r.range(0.3, 0.8);
+            }
+        }
+        "bosses" => {
+            let (a, b) = (d * r.range(0.7, 1.0), d * r.range(0.7, 1.0));
+            loops = vec![rect(-a, -b, a, b)];
+            loops.extend(bosses(cornered(a, b, r), d * r.range(0.15, 0.45), r));
+        }
+        "stockisles" => {
+            let (a, b) = (d * r.range(0.6, 1.0), d * r.range(0.6, 1.0));
+            loops = vec![rect(-a, -b, a, b)];
+            let mut regions = vec![vec![rect(-a, -b, a * r.range(-0.3, 1.2), b)]];
+            if r.chance(0.5) {
+                regions.push(vec![ring(v2(a * r.range(-0.2, 0.6), 0.0), d * r.range(0.5, 0.9), 11, 0.2)]);
+            }
+            for region in &mut regions {
+                let c = v2(r.range(-a, a), r.range(-b, b)) * 0.8;
+                region.extend(bosses(c, d * r.range(0.15, 0.5), r));
+            }
+            stock = Some(regions);
+        }
+        "crossed" => {
+            let (a, b) = (d * r.range(0.7, 0.95), d * r.range(0.7, 0.9));
+            let outer = if r.chance(0.7) { curled(a, b, d, r) } else { crossing(Vec2::ZERO, a * 1.1, r) };
+            loops = vec![outer];
+            if r.chance(0.6) {
+                let c = v2(a * r.range(-0.8, 0.8), b * r.range(0.6, 1.0));
+                loops.push(ring(c, d * r.range(0.05, 0.3), 6, 0.2));
+            }
+        }
+        "crossisles" => {
+            let (a, b) = (d * r.range(0.7, 1.0), d * r.range(0.7, 1.0));
+            loops = vec![rect(-a, -b, a, b)];
+            let (c, size) = (cornered(a, b, r), d * r.range(0.15, 0.45));
+            loops.push(crossing(c, size, r));
+            match r.below(3) {
+                0 => {}
+                1 => loops.push(crossing(c + v2(size * r.range(-0.8, 0.8), 0.0), size, r)),
+                _ => loops.extend(bosses(c, size, r)),
+            }
         }
         "exact" if r.chance(0.7) => {
             let n = r.below(30) as usize + 3;

@@ -3,6 +3,7 @@ use super::distance::squared_distances;
 use crate::circle::cos_sin;
 use crate::job::Job;
 use crate::rim::rim;
+use crate::switches;
 use crate::vec2::{Vec2, v2};
 use std::f64::consts::{PI, TAU};
 
@@ -23,8 +24,22 @@ pub struct World {
     limit: f64,
 }
 
-/// The cells in a row of each loop list's even-odd crossings.
+/// Sets the cells of a region by the fill that the switch says.
 fn fill(map: &mut [bool], nx: usize, origin: Vec2, cell: f64, loops: &[Vec<Vec2>]) {
+    let by = if switches::get().fill_contains { fill_within } else { fill_even_odd };
+    by(map, nx, origin, cell, loops)
+}
+
+/// The cells whose centre is within the region.
+fn fill_within(map: &mut [bool], nx: usize, origin: Vec2, cell: f64, loops: &[Vec<Vec2>]) {
+    for (k, v) in map.iter_mut().enumerate() {
+        let q = origin + v2((k % nx) as f64 + 0.5, (k / nx) as f64 + 0.5) * cell;
+        *v |= within(q, loops);
+    }
+}
+
+/// The cells in a row of each loop list's even-odd crossings.
+fn fill_even_odd(map: &mut [bool], nx: usize, origin: Vec2, cell: f64, loops: &[Vec<Vec2>]) {
     for (j, row) in map.chunks_mut(nx).enumerate() {
         let y = origin.y + (j as f64 + 0.5) * cell;
         let mut crossings = Vec::new();
@@ -58,6 +73,11 @@ fn inside(q: Vec2, l: &[Vec2]) -> bool {
         }
     }
     odd
+}
+
+/// Inside the outer loop, and inside no island.
+fn within(q: Vec2, loops: &[Vec<Vec2>]) -> bool {
+    inside(q, &loops[0]) && !loops[1..].iter().any(|l| inside(q, l))
 }
 
 fn segment_distance(q: Vec2, a: Vec2, b: Vec2) -> f64 {
@@ -133,10 +153,7 @@ impl World {
         let near = |l: &Vec<Vec2>| {
             l.iter().enumerate().any(|(i, a)| segment_distance(q, *a, l[(i + 1) % l.len()]) < self.keep)
         };
-        self.wall[k] + 2.0 * self.cell >= self.keep
-            && !self.loops.iter().any(near)
-            && inside(q, &self.loops[0])
-            && !self.loops[1..].iter().any(|l| inside(q, l))
+        self.wall[k] + 2.0 * self.cell >= self.keep && !self.loops.iter().any(near) && within(q, &self.loops)
     }
 
     pub fn free(&self, q: Vec2) -> bool {

@@ -80,7 +80,8 @@ impl Drawing<'_> {
         let signs = [
             ("<path class=\"wall\" d=\"M0 0h28\"/>", "wall of the pocket".to_string()),
             (
-                "<rect class=\"island\" x=\"3\" y=\"-8\" width=\"22\" height=\"16\"/>",
+                "<rect class=\"edge\" x=\"3\" y=\"-8\" width=\"22\" height=\"16\"/>\
+                 <rect class=\"island\" x=\"3\" y=\"-8\" width=\"22\" height=\"16\"/>",
                 format!("island ({})", count(self.scene.pocket.islands.len())),
             ),
             (

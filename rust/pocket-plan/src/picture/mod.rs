@@ -40,7 +40,8 @@ text{font-family:Helvetica,Arial,sans-serif;font-size:12px;fill:#222}
 .stock{fill:#ecebe6}
 .left{fill:#4d7a86;fill-rule:evenodd}
 .wall{fill:none;stroke:#222;stroke-width:1.6;stroke-linejoin:round}
-.island{fill:url(#hatch);stroke:#222;stroke-width:1.6;stroke-linejoin:round}
+.edge{fill:none;stroke:#222;stroke-width:3.2;stroke-linejoin:round}
+.island{fill:url(#hatch);fill-rule:evenodd}
 .pass{fill:none;stroke-linejoin:round;stroke-linecap:round}
 .link{fill:none;stroke:#2b2b2b;stroke-width:.7;stroke-opacity:.5;stroke-dasharray:3 2}
 .plunge{fill:#fff;stroke:#000;stroke-width:.9;stroke-linejoin:round}
@@ -163,26 +164,41 @@ impl Drawing<'_> {
         path
     }
 
-    /// A region as the even-odd rule has it.
-    fn region(&self, shape: &Shape) -> String {
-        shape.loops().map(|points| self.outline(points).data().to_string()).collect()
+    /// A region: its outer loop where a mask hides no island. Each loop by itself is filled by even and odd.
+    fn region(&self, name: &str, shape: &Shape) -> String {
+        let (plot, outer) = (self.frame_rect(" fill=\"#fff\""), self.outline(&shape.outer));
+        let island = |points: &Vec<Point>| {
+            format!("<path fill-rule=\"evenodd\" d=\"{}\"/>", self.outline(points).data())
+        };
+        let islands: String = shape.islands.iter().map(island).collect();
+        format!(
+            "<mask id=\"{name}\" maskUnits=\"userSpaceOnUse\">{plot}{islands}</mask>\n\
+             <path class=\"stock\" fill-rule=\"evenodd\" mask=\"url(#{name})\" d=\"{}\"/>",
+            outer.data()
+        )
     }
 
     fn regions(&mut self) {
         let scene = self.scene;
         let stock = scene.stock.as_deref().unwrap_or(std::slice::from_ref(&scene.pocket));
         self.put("<g clip-path=\"url(#pocket)\">");
-        for shape in stock {
-            let data = self.region(shape);
-            self.put(format!("<path class=\"stock\" fill-rule=\"evenodd\" d=\"{data}\"/>"));
+        for (k, shape) in stock.iter().enumerate() {
+            let region = self.region(&format!("stock{k}"), shape);
+            self.put(region);
         }
         self.put("</g>");
         let left = self.left();
         self.put(format!("<path class=\"left\" d=\"{}\"/>", left.data()));
-        for island in &scene.pocket.islands {
-            let path = self.outline(island);
-            self.put(format!("<path class=\"island\" d=\"{}\"/>", path.data()));
+        // What an island has beyond the outer loop is no part of the pocket. The edges lie below all islands, so that none
+        // is seen where two overlap.
+        self.put("<g clip-path=\"url(#pocket)\">");
+        for class in ["edge", "island"] {
+            for island in &scene.pocket.islands {
+                let path = self.outline(island);
+                self.put(format!("<path class=\"{class}\" d=\"{}\"/>", path.data()));
+            }
         }
+        self.put("</g>");
         let path = self.outline(&scene.pocket.outer);
         self.put(format!("<path class=\"wall\" d=\"{}\"/>", path.data()));
     }

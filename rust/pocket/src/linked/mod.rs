@@ -127,7 +127,7 @@ pub fn cell_of(grid: Grid, point: Point) -> Result<Option<(usize, usize)>, Refus
     Refusal::answered(cell.refused).map(|()| cell.found.then_some((cell.column, cell.row)))
 }
 
-/// Sets the cells of a region, outer loop and islands, by the even-odd rule.
+/// Sets the cells whose centre is in a region: in its outer loop, and in none of its islands.
 pub fn fill_region(grid: Grid, map: &mut [u8], vertices: &[f64], lengths: &[u32]) -> Result<(), Refusal> {
     let (map, map_len) = (map.as_mut_ptr(), map.len());
     let (at, len) = (vertices.as_ptr(), vertices.len());

@@ -6,7 +6,7 @@ use borrow.Author.Needs.{needs}
 use Rattle.pocket.specs.declared.answers.Done.the-variants.{Refused, Finished}
 use Rattle.pocket.specs.Leaves.{onMap, fillOf}
 use Rattle.pocket.proofs.LeafLaws.{is-refused, is-answered}
-use Rattle.pocket.proofs.ShapeLaws.{shape-held, shape-vertices, fill-none}
+use Rattle.pocket.proofs.ShapeLaws.{shape-held, fill-none}
 use Rattle.pocket.proofs.places.fill_region.Statement.{statement}
 use Rattle.pocket.proofs.places.fill_region.Tie as tie
 
@@ -26,7 +26,7 @@ fill-region-requires : tie.Need-fill-region-requires
 fill-region-requires c κs =
     let s = c .before .before .before .before .before .before .before .args in
     let w = fill-none (s .g) (s .vs .now) (s .lens .now) _ (sym (c .before .before .before .fill-refusal .ensures) ∙ c .before .before .if1 .left) in
-    (w .1, (shape-held (s .vs .now) (s .lens .now) (w .0), shape-vertices (s .vs .now) (s .lens .now) (w .0)))
+    (w .1, (shape-held (s .vs .now) (s .lens .now) (w .0), w .1 .sides .columns))
 
 same-length : tie.Need-same-length
 same-length c = search needs

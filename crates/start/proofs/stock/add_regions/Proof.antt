@@ -7,12 +7,12 @@ use mathlib.Core.List.{List}
 use lib.Ieee.{Float}
 use Rattle.loops.proofs.LoopLaws.{Going, going-none, going-more, going-end}
 use Rattle.geom.proofs.RegionLaws.{region}
-use Rattle.raster.specs.Fill.{fillRegion}
+use Rattle.filling.specs.Fill.{fillRegion}
 use Rattle.geom.specs.declared.region.Region.{Region}
 use Rattle.raster.specs.declared.grid.Grid.{Grid}
 use Rattle.entry.specs.Regions.{regionAt}
 use Rattle.start.specs.Start.{addRegion, addRegions}
-use Rattle.entry.proofs.RegionsLaws.{region-is, next-at, next-first, second-first, held-is, few-is}
+use Rattle.entry.proofs.RegionsLaws.{region-is, next-at, next-first, second-first, held-is}
 use Rattle.start.proofs.StockLaws.{adding-long}
 use Rattle.start.proofs.stock.add_regions.Statement.{statement}
 use Rattle.start.proofs.stock.add_regions.Tie as tie
@@ -65,7 +65,7 @@ fill-region-requires c κs =
       record { sides = s .pre .0 .sides; long = omega (arith, s .pre .0 .long, map-long (c .before .before .before .before)) },
       (
         held-is (s .args .vs .now) (s .args .lens .now) (s .args .regions .now) (s .pre .1 .0) _ t _ (this (c .before .before)),
-        omega (arith, few-is (s .args .vs .now) (s .args .lens .now) (s .args .regions .now) (s .pre .1 .0) _ t _ (this (c .before .before)), i .long, s .pre .1 .1 .1),
+        omega (arith, s .pre .0 .sides .columns, i .long, s .pre .1 .1 .1),
       ),
     )
 

@@ -1,7 +1,7 @@
 -- `start::stock::fill_inside` meets its contract. Assumes nothing.
 use native.Mathlib.Omega.{arith}
 use borrow.Author.Needs.{needs}
-use Rattle.raster.specs.Fill.{fillRegion}
+use Rattle.filling.specs.Fill.{fillRegion}
 use Rattle.start.proofs.WriteLaws.{lent-put}
 use Rattle.start.proofs.stock.fill_inside.Statement.{statement}
 use Rattle.start.proofs.stock.fill_inside.Tie as tie
@@ -15,8 +15,8 @@ inside-requires c κs = search needs
 add-e : tie.Need-add-e
 add-e c = search needs
 
-crossings-requires : tie.Need-crossings-requires
-crossings-requires c κs = search needs
+columns-requires : tie.Need-columns-requires
+columns-requires c κs = search needs
 
 add-y : tie.Need-add-y
 add-y c = search needs
@@ -52,7 +52,7 @@ same-length-2 : tie.Need-same-length-2
 same-length-2 c = search needs
 
 returns : tie.Need-returns
-returns c = let s = c .before .before .before .before .before .before .before .before .before .before .before .before .before .before in lent-put (fillRegion (s .args .g) (s .args .vs .now) (s .args .lens .now) (s .args .pocket)) 5 _ _ _ _ _ (c .before .before .before .before .before .before .before .before .before .cells .ensures) (c .before .before .before .before .before .before .before .before .inside .ensures) (omega (arith, s .pre .1 .1 .1 .0)) (c .before .before .before .before .fill-region .ensures)
+returns c = let s = c .before .before .before .before .before .before .before .before .before .before .before .before .before .before in lent-put (fillRegion (s .args .g) (s .args .vs .now) (s .args .lens .now) (s .args .pocket)) 5 _ _ _ _ _ (c .before .before .before .before .before .before .before .before .before .cells .ensures) (c .before .before .before .before .before .before .before .before .inside .ensures) (omega (arith, s .pre .1 .1 .0)) (c .before .before .before .before .fill-region .ensures)
 
 pub fill-inside-spec : {M : Type 1} → statement M
 fill-inside-spec =
@@ -61,7 +61,7 @@ fill-inside-spec =
     cells-requires
     inside-requires
     add-e
-    crossings-requires
+    columns-requires
     add-y
     sub-fill-region
     part-fill-region-start

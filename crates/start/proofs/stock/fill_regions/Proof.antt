@@ -1,7 +1,7 @@
 -- `start::stock::fill_regions` meets its contract. Assumes nothing.
 use native.Mathlib.Omega.{arith}
 use borrow.Author.Needs.{needs}
-use Rattle.entry.proofs.RegionsLaws.{held-is, few-is}
+use Rattle.entry.proofs.RegionsLaws.{held-is}
 use Rattle.start.proofs.StockLaws.{filled-whole, filled-list}
 use Rattle.start.proofs.stock.fill_regions.Statement.{statement}
 use Rattle.start.proofs.stock.fill_regions.Tie as tie
@@ -16,10 +16,7 @@ fill-inside-requires c κs =
       s .pre .0,
       (
         held-is (s .args .vs .now) (s .args .lens .now) (s .args .regions .now) h 0 (h .some) _ (s .pre .1 .1 .0),
-        (
-          few-is (s .args .vs .now) (s .args .lens .now) (s .args .regions .now) h 0 (h .some) _ (s .pre .1 .1 .0),
-          (omega (arith, s .pre .1 .1 .1 .0, c .before .before .before .before .fill-bytes .kept .0), s .pre .1 .1 .1 .1),
-        ),
+        (omega (arith, s .pre .1 .1 .1 .0, c .before .before .before .before .fill-bytes .kept .0), s .pre .1 .1 .1 .1),
       ),
     )
 

@@ -19,8 +19,8 @@ abandoned-requires c κs = search needs
 add-e : tie.Need-add-e
 add-e c = search needs
 
-crossings-requires : tie.Need-crossings-requires
-crossings-requires c κs = search needs
+columns-requires : tie.Need-columns-requires
+columns-requires c κs = search needs
 
 add-y : tie.Need-add-y
 add-y c = search needs
@@ -51,9 +51,9 @@ add-regions-requires c κs =
     let s = c .before .before .before .before .before .before .before .before .before .before in
     let n = c .before .before .before .before .cells .ensures in
     let m = s .pre .1 .1 .1 .0 in
-    let x = c .before .before .crossings .result in (
+    let x = c .before .before .columns .result in (
       record { sides = s .pre .0; long = omega (arith, n, m, part-long 3 _ _ _ (s .args .b .now) (c .before .before .before .abandoned .ensures) refl (omega (arith, n, m))) },
-      (s .pre .1 .0, (s .pre .1 .1 .0, omega (arith, n, c .before .before .crossings .ensures, s .pre .1 .1 .1 .1, region-long x (x + 4096) (s .args .w .now) (record { start = omega arith; end = omega (arith, n, c .before .before .crossings .ensures, s .pre .1 .1 .1 .1) })))),
+      (s .pre .1 .0, (s .pre .1 .1 .0, omega (arith, n, c .before .before .columns .ensures, s .pre .1 .1 .1 .1, region-long x (x + 4096) (s .args .w .now) (record { start = omega arith; end = omega (arith, n, c .before .before .columns .ensures, s .pre .1 .1 .1 .1) })))),
     )
 
 same-length : tie.Need-same-length
@@ -74,7 +74,7 @@ fill-stock-spec =
     cells-requires
     abandoned-requires
     add-e
-    crossings-requires
+    columns-requires
     add-y
     sub-add-regions
     part-add-regions-start

@@ -1,6 +1,6 @@
 -- `vectors_maps::fill::filled` meets its contract. Assumes nothing.
 use mathlib.Core.Path.{refl}
-use Rattle.vectors_maps.proofs.AnswerLaws.{held-three, few-vertices, filled-is}
+use Rattle.vectors_maps.proofs.AnswerLaws.{held-three, filled-is}
 use borrow.Author.Needs.{needs}
 use Rattle.vectors_maps.proofs.fill.filled.Statement.{statement}
 use Rattle.vectors_maps.proofs.fill.filled.Tie as tie
@@ -21,7 +21,7 @@ slice-aggregate-fill-region-3 : tie.Need-slice-aggregate-fill-region-3
 slice-aggregate-fill-region-3 c = search needs
 
 fill-region-requires : tie.Need-fill-region-requires
-fill-region-requires c κs = (c .before .before .before .before .before .before .before .before .pre .0, (held-three _ _ _ _ _ _ (c .before .before .before .before .before .before .before .before .pre .1) (c .before .before .before .before .before .vertices .ensures) refl, few-vertices _ _ _ (c .before .before .before .before .before .before .before .before .pre .1)))
+fill-region-requires c κs = (c .before .before .before .before .before .before .before .before .pre .0, (held-three _ _ _ _ _ _ (c .before .before .before .before .before .before .before .before .pre .1) (c .before .before .before .before .before .vertices .ensures) refl, c .before .before .before .before .before .before .before .before .pre .0 .sides .columns))
 
 same-length : tie.Need-same-length
 same-length c = search needs
