@@ -1,12 +1,14 @@
 -- The order of entries: `beforeOf` is a strict total order, and two entries of which neither comes before the other are the same. Assumes nothing.
-use mathlib.Core.Path.{_≡_, refl, sym, ap, _∙_}
-use mathlib.Core.Bool.{Bool, true, false, cond}
-use Prim.Native.Nat.{ℕ, _≤_, _<_}
+use mathlib.Core.Path.{_≡_, sym, ap, _∙_, subst}
+use mathlib.Core.Bool.{Bool, true, false}
+use Prim.Native.Nat.{ℕ, _<_}
 use native.Mathlib.Omega.{arith}
 use lib.Dec.{T, ltb}
 use lib.Ieee.{Float, binary64, fits, lt}
-use borrow.Author.Tests.{ltb-true, ltb-false, lt-ltb, le-ltb}
-use Rattle.loops.proofs.Cases.{by-cases, never}
+use borrow.Author.Tests.{ltb-false, lt-ltb, le-ltb}
+use Rattle.loops.specs.Least.{thenBy}
+use Rattle.loops.proofs.Cases.{by-cases}
+use Rattle.loops.proofs.LeastLaws.{Ordered, itself, lower-ordered, then-ordered, then-equal}
 use Rattle.numbers.specs.Order.{rankOf, totalOf}
 use Rattle.numbers.specs.declared.order.Ordering.{Ordering}
 use Rattle.numbers.proofs.OrderLaws.{rank-one}
@@ -17,72 +19,44 @@ use Rattle.links.proofs.RankLaws.{rank-lt}
 abbrev entryOf : Float → ℕ → Entry
 entryOf x v = record { est = x; node = record { 0 = v } }
 
--- two pairs of numbers compared by the first, then by the second
-abbrev lex : ℕ → ℕ → ℕ → ℕ → Bool
-lex r v s w = cond (ltb r s) true (cond (ltb s r) false (ltb v w))
+abbrev lowerEstimate : Entry → Entry → Bool
+lowerEstimate a b = ltb (rankOf (a .est)) (rankOf (b .est))
 
-lex-is : (a b : Entry) → beforeOf a b ≡ lex (rankOf (a .est)) (a .node .0) (rankOf (b .est)) (b .node .0)
-unfolding beforeOf settled totalOf
-lex-is a b = by-cases (ltb (rankOf (a .est)) (rankOf (b .est))) (λ p. rw p) (λ p. by-cases (ltb (rankOf (b .est)) (rankOf (a .est))) (λ q. rw (p, q)) (λ q. rw (p, q)))
+abbrev lowerNode : Entry → Entry → Bool
+lowerNode a b = ltb (a .node .0) (b .node .0)
 
-module _ (r v s w : ℕ) where
-  lex-less : r < s → lex r v s w ≡ true
-  lex-less h = rw (lt-ltb r s h)
+then-is : (a b : Entry) → beforeOf a b ≡ thenBy lowerEstimate lowerNode a b
+unfolding beforeOf settled totalOf thenBy
+then-is a b = by-cases (lowerEstimate a b) (λ p. rw p) (λ p. by-cases (lowerEstimate b a) (λ q. rw (p, q)) (λ q. rw (p, q)))
 
-  -- what a yes and a no say
-  lex-yes : {A : Type 0} → lex r v s w ≡ true → (r < s → A) → (r ≡ s → v < w → A) → A
-  lex-yes e f g =
-      by-cases (ltb r s)
-      (λ a. f (ltb-true r s a))
-      (λ a. by-cases (ltb s r)
-      (λ b. never (let z = rw (a, b) at e in z))
-      (λ b. g (omega (arith, ltb-false r s a, ltb-false s r b)) (ltb-true v w (let z = rw (a, b) at e in z))))
+estimates : Ordered lowerEstimate
+estimates = lower-ordered (λ (a : Entry). rankOf (a .est))
 
-  lex-no : {A : Type 0} → lex r v s w ≡ false → (s < r → A) → (r ≡ s → w ≤ v → A) → A
-  lex-no e f g =
-      by-cases (ltb r s)
-      (λ a. never (sym (let z = rw a at e in z)))
-      (λ a. by-cases (ltb s r)
-      (λ b. f (ltb-true s r b))
-      (λ b. g (omega (arith, ltb-false r s a, ltb-false s r b)) (ltb-false v w (let z = rw (a, b) at e in z))))
+nodes : Ordered lowerNode
+nodes = lower-ordered (λ (a : Entry). a .node .0)
 
-  lex-above : s < r → lex r v s w ≡ false
-  lex-above h = rw (le-ltb r s (omega arith), lt-ltb s r h)
-
-  lex-level : r ≡ s → w ≤ v → lex r v s w ≡ false
-  lex-level h k = rw (le-ltb r s (omega arith), le-ltb s r (omega arith), le-ltb v w k)
+before-ordered : Ordered beforeOf
+before-ordered = subst Ordered (λ i a b. sym (then-is a b) i) (then-ordered lowerEstimate lowerNode estimates nodes)
 
 pub before-same : (a : Entry) → beforeOf a a ≡ false
-before-same a = lex-is a a ∙ lex-level (rankOf (a .est)) (a .node .0) (rankOf (a .est)) (a .node .0) refl (omega arith)
+before-same a = itself beforeOf before-ordered a
 
 -- what comes before does not come after
 pub before-once : (a b : Entry) → beforeOf a b ≡ true → beforeOf b a ≡ false
-before-once a b e = lex-is b a ∙ go (rankOf (a .est)) (a .node .0) (rankOf (b .est)) (b .node .0) (sym (lex-is a b) ∙ e)
-  where
-    go : (r v s w : ℕ) → lex r v s w ≡ true → lex s w r v ≡ false
-    go r v s w e = lex-yes r v s w e (λ h. lex-above s w r v h) (λ h k. lex-level s w r v (sym h) (omega arith))
+before-once a b e = before-ordered .one-way a b e
 
 -- where b does not come before a, nor c before b, c does not come before a
 pub not-before : (a b c : Entry) → beforeOf b a ≡ false → beforeOf c b ≡ false → beforeOf c a ≡ false
-not-before a b c p q =
-    lex-is c a ∙ go (rankOf (a .est)) (a .node .0) (rankOf (b .est)) (b .node .0) (rankOf (c .est)) (c .node .0) (sym (lex-is b a) ∙ p) (sym (lex-is c b) ∙ q)
-  where
-    go : (r v s w t x : ℕ) → lex s w r v ≡ false → lex t x s w ≡ false → lex t x r v ≡ false
-    go r v s w t x p q =
-        lex-no s w r v p
-        (λ h. lex-no t x s w q (λ k. lex-above t x r v (omega arith)) (λ k l. lex-above t x r v (omega arith)))
-        (λ h m. lex-no t x s w q (λ k. lex-above t x r v (omega arith)) (λ k l. lex-level t x r v (omega arith) (omega arith)))
+not-before a b c p q = before-ordered .passed-on c b a q p
 
 -- two entries of which neither comes before the other are one
 pub one-entry : (a b : Entry) → T (fits binary64 (a .est)) → T (fits binary64 (b .est)) → beforeOf a b ≡ false → beforeOf b a ≡ false → a ≡ b
-one-entry a b f g p q = go (rankOf (a .est)) (a .node .0) (rankOf (b .est)) (b .node .0) (sym (lex-is a b) ∙ p) (sym (lex-is b a) ∙ q) (λ h k. made (rank-one (a .est) (b .est) f g h) k)
+one-entry a b f g p q =
+    then-equal lowerEstimate lowerNode estimates nodes a b (sym (then-is a b) ∙ p) (sym (then-is b a) ∙ q)
+    (λ k l m n. made
+    (rank-one (a .est) (b .est) f g (omega (arith, ltb-false (rankOf (a .est)) (rankOf (b .est)) k, ltb-false (rankOf (b .est)) (rankOf (a .est)) l)))
+    (omega (arith, ltb-false (a .node .0) (b .node .0) m, ltb-false (b .node .0) (a .node .0) n)))
   where
-    go : {A : Type 0} (r v s w : ℕ) → lex r v s w ≡ false → lex s w r v ≡ false → (r ≡ s → v ≡ w → A) → A
-    go r v s w p q f =
-        lex-no r v s w p
-        (λ h. absurd (lex-no s w r v q (λ k. omega arith) (λ k l. omega arith)))
-        (λ h m. f h (lex-no s w r v q (λ k. omega arith) (λ k l. omega arith)))
-
     made : a .est ≡ b .est → a .node .0 ≡ b .node .0 → a ≡ b
     made d e = ap (λ (x : Float). entryOf x (a .node .0)) d ∙ ap (λ (v : ℕ). entryOf (b .est) v) e
 
@@ -93,7 +67,11 @@ before-by a b o e = ap (λ (x : Ordering). settled x (ltb (a .node .0) (b .node 
 
 module _ (a b : Entry) (p : T (fits binary64 (a .est))) (q : T (fits binary64 (b .est))) where
   pub before-less : lt (a .est) (b .est) ≡ true → true ≡ beforeOf a b
-  before-less h = sym (lex-is a b ∙ lex-less (rankOf (a .est)) (a .node .0) (rankOf (b .est)) (b .node .0) (rank-lt (a .est) (b .est) p q h))
+  unfolding thenBy
+  before-less h = sym (then-is a b ∙ rw (lt-ltb (rankOf (a .est)) (rankOf (b .est)) (rank-lt (a .est) (b .est) p q h)))
 
   pub before-greater : lt (b .est) (a .est) ≡ true → false ≡ beforeOf a b
-  before-greater h = sym (lex-is a b ∙ lex-above (rankOf (a .est)) (a .node .0) (rankOf (b .est)) (b .node .0) (rank-lt (b .est) (a .est) q p h))
+  unfolding thenBy
+  before-greater h =
+      let l : rankOf (b .est) < rankOf (a .est) = rank-lt (b .est) (a .est) q p h in
+      sym (then-is a b ∙ rw (le-ltb (rankOf (a .est)) (rankOf (b .est)) (omega arith), lt-ltb (rankOf (b .est)) (rankOf (a .est)) l))

@@ -1,5 +1,6 @@
 pub mod Cases
 pub mod LoopLaws
+pub mod LeastLaws
 pub mod RegionLaws
 pub mod CellLaws
 pub mod SetLaws

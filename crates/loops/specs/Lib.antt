@@ -1,5 +1,6 @@
 -- What every layer cites: a counting loop as a fold, the parts of a slice, the cells of a map.
 pub mod Loop
+pub mod Least
 pub mod Regions
 pub mod Cells
 pub mod Each

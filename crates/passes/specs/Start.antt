@@ -4,7 +4,7 @@ use mathlib.Core.Bool.{Bool, true, false, cond}
 use mathlib.Core.List.{List}
 use lib.ListN.{length, getD}
 use lib.Ieee.{Float}
-use Rattle.loops.specs.Loop.{loop}
+use Rattle.loops.specs.Least.{leastBy}
 use Rattle.numbers.specs.Order.{totalOf}
 use Rattle.numbers.specs.declared.order.Ordering.{Ordering}
 use Rattle.numbers.specs.declared.order.Ordering.the-variants.{Less, Equal, Greater}
@@ -23,24 +23,20 @@ isGreater Greater = true
 abbrev pub nr : ℕ → Float → Near
 nr k d = record { at = k; far = d }
 
--- of two the first, unless the second is nearer in the total order
+-- x is nearer than y in the total order: y.total_cmp(&x) is Greater
+unfoldable pub isNearer : Float → Float → Bool
+isNearer x y = isGreater (totalOf y x)
+
+-- of two the first, unless the second is nearer
 unfoldable pub nearer : Near → ℕ → Float → Near
-nearer b k d = cond (isGreater (totalOf (b .far) d)) (nr k d) b
-
--- number k, which is so far away, after those before it
-unfoldable pub nearStep : (ℕ → Float) → ℕ → Near → Near
-nearStep far k b = nearer b k (far k)
-
--- the nearest of n, the first on a tie: (0..n).min_by(..)
-unfoldable pub leastBy : (ℕ → Float) → ℕ → ℕ
-leastBy far n = loop (nearStep far) 1 n (nr 0 (far 0)) .at
+nearer b k d = cond (isNearer d (b .far)) (nr k d) b
 
 abbrev pub pointFar : List Vec2 → Vec2 → ℕ → Float
 pointFar pts p k = distanceOf (getD pts k nowhere) p
 
--- the point nearest to p
+-- the point nearest to p, the first on a tie: (0..n).min_by(..)
 unfoldable pub nearestOf : List Vec2 → Vec2 → ℕ
-nearestOf pts p = leastBy (pointFar pts p) (length pts)
+nearestOf pts p = leastBy isNearer (pointFar pts p) (length pts)
 
 -- pos.map_or(0, ..)
 unfoldable pub nearOf : List Vec2 → Place → ℕ

@@ -5,7 +5,7 @@ ghost use Prim.Native.Nat.{_+_, _*_, _/_, _≤_, _<_};
 ghost use lib.ListN.{length};
 ghost use Rattle.geom.specs.Points.{points};
 ghost use Rattle.setup.specs.Layout.{most};
-ghost use Rattle.passes.specs.Start.{isGreater, nearer, nearestOf, nearOf, startOf};
+ghost use Rattle.passes.specs.Start.{isGreater, isNearer, nearer, nearestOf, nearOf, startOf};
 use geom::region::vertex;
 use geom::vec2::Vec2;
 use numbers::order::Ordering;
@@ -33,11 +33,18 @@ fn greater(o: Ordering) -> bool
     }
 }
 
+// Whether x is less than y in the total order.
+pub fn is_nearer(x: f64, y: f64) -> bool
+    ensures { λ b. ⌜ b ≡ isNearer x y ⌝ }
+{
+    greater(total_cmp(y, x))
+}
+
 // Of two the first, unless the second is nearer.
-pub fn nearer(b: Near, k: usize, d: f64) -> Near
+fn nearer(b: Near, k: usize, d: f64) -> Near
     ensures { λ r. ⌜ r ≡ nearer b k d ⌝ }
 {
-    if greater(total_cmp(b.far, d)) {
+    if is_nearer(d, b.far) {
         return Near { at: k, far: d };
     }
     b

@@ -1,30 +1,34 @@
--- What the proofs of `next` cite: the distance of a piece point by point, and the nearest piece row by row. Assumes nothing.
+-- What the proofs of `next` cite: the distance of a piece point by point, and the next piece row by row; and that the next one comes before all others.
+-- Assumes nothing.
 use mathlib.Core.Path.{_≡_, refl, sym, ap, _∙_, subst}
-use mathlib.Core.Bool.{true, false}
+use mathlib.Core.Bool.{Bool, true, false}
 use mathlib.Core.List.{List}
 use Prim.Native.Nat.{ℕ, suc, _+_, _≤_, _<_}
 use native.Mathlib.Omega.{arith}
 use lib.ListN.{length}
+use lib.Dec.{ltb}
 use lib.Ieee.{Float, inf}
-use Rattle.loops.specs.Loop.{loop}
+use borrow.Author.Tests.{ltb-false, lt-ltb, le-ltb}
 use Rattle.loops.specs.Each.{over}
+use Rattle.loops.specs.Least.{thenBy, leastBy}
+use Rattle.loops.proofs.Cases.{by-cases}
 use Rattle.loops.proofs.EachLaws.{over-more}
-use Rattle.numbers.specs.Order.{minOf, rankOf}
+use Rattle.loops.proofs.LeastLaws.{Leads, leads-first, leads-new, leads-on, leads-end, Ordered, lower-ordered, turned-ordered, then-ordered, then-equal, least-below, least-first}
+use Rattle.numbers.specs.Order.{minOf}
 use Rattle.geom.specs.Vec.{distanceOf}
 use Rattle.geom.specs.Region.{vertexOf}
 use Rattle.geom.specs.Points.{points}
 use Rattle.geom.specs.declared.vec2.Vec2.{Vec2}
-use Rattle.geom.proofs.PointLaws.{points-get}
+use Rattle.geom.proofs.PointLaws.{points-get, points-length}
 use Rattle.pieces.specs.Piece.{Piece, rowAt, pieceOf, piecesAt}
 use Rattle.pieces.specs.declared.row.Row.{Row}
 use Rattle.pieces.proofs.PieceLaws.{pieces-length, piece-get}
 use Rattle.passes.specs.Simulate.{nowhere}
-use Rattle.passes.specs.Start.{nr, nearer, nearStep, leastBy}
-use Rattle.passes.specs.declared.start.Near.{Near}
 use Rattle.passes.specs.declared.start.Place.{Place}
 use Rattle.passes.specs.declared.start.Place.the-variants.{At}
-use Rattle.passes.proofs.StartLaws.{least-end, least-below, least-least}
-use Rattle.rounds.specs.Next.{hereOf, closer, pieceFar, noPiece, farAt, nextOf, Read, Readable}
+use Rattle.passes.proofs.StartLaws.{nearer-ordered}
+use Rattle.rounds.specs.Next.{hereOf, closer, pieceFar, noPiece, candidateOf, candidateAt, nearer, longer, earlier, comesBefore, nextOf, Read}
+use Rattle.rounds.specs.declared.next.Candidate.{Candidate}
 
 pub here-at : (pos : Place) (p : Vec2) → pos ≡ At p → p ≡ hereOf pos
 unfolding hereOf
@@ -66,34 +70,109 @@ module _ (pts : List Float) (to : Vec2) where
         rw e (D ∙ ap (λ (q : Vec2). distanceOf q to)
         (U ∙ ap (vertexOf pts) (let z : r .first ≡ r .first + 0 = omega arith in z) ∙ sym (points-get (r .first) (r .points) 0 pts nowhere (omega arith))))
 
--- ---- the nearest
+-- ---- what a piece is chosen by
 
-pub row-read : (m : ℕ) (rows : List ℕ) (pts : List Float) → Readable m rows pts → (k : ℕ) → k < m → (r : Row) → r ≡ rowAt rows k → Read r pts
-row-read m rows pts h k b r R = subst (λ (q : Row). Read q pts) (sym R) (h .each k b)
+pub row-read : (r : Row) (pts : List Float) → Read r pts → (q : Row) → q ≡ r → Read q pts
+row-read r pts h q Q = subst (λ (x : Row). Read x pts) (sym Q) h
+
+pub candidate-is : (r : Row) (pts : List Float) (to : Vec2) (k : ℕ) (q : Row) → q ≡ r → (d : Float) → d ≡ pieceFar (pieceOf q pts) to
+    → record { far = d; points = q .points; at = k } ≡ candidateOf (pieceOf r pts) to k
+unfolding candidateOf pieceOf
+candidate-is r pts to k q Q d D =
+    (λ i. record { far = D i; points = sym (points-length (q .first) (q .points) pts) i; at = k }) ∙ ap (λ (x : Row). candidateOf (pieceOf x pts) to k) Q
+
+-- ---- which of two is cut first
+
+module _ (a b : Candidate) where
+  pub ahead-equal : a .points ≡ b .points → ltb (a .at) (b .at) ≡ thenBy longer earlier a b
+  unfolding thenBy
+  ahead-equal e = rw (le-ltb (b .points) (a .points) (omega arith), le-ltb (a .points) (b .points) (omega arith))
+
+  pub ahead-not : (a .points ≡ b .points → ⊥) → ltb (b .points) (a .points) ≡ thenBy longer earlier a b
+  unfolding thenBy
+  ahead-not e = by-cases (ltb (b .points) (a .points)) (λ t. rw t) (λ t. rw (t, lt-ltb (a .points) (b .points) (omega (arith, ltb-false (b .points) (a .points) t, e))))
+
+  pub before-yes : (t : Bool) → t ≡ nearer a b → t ≡ true → true ≡ comesBefore a b
+  unfolding comesBefore thenBy
+  before-yes t T e = rw (← T, e)
+
+  module _ (t : Bool) (T : t ≡ nearer a b) (e : t ≡ false) (u : Bool) (U : u ≡ nearer b a) where
+    pub before-no : u ≡ true → false ≡ comesBefore a b
+    unfolding comesBefore thenBy
+    before-no d = rw (← T, e, ← U, d)
+
+    pub before-level : u ≡ false → (r : Bool) → r ≡ thenBy longer earlier a b → r ≡ comesBefore a b
+    unfolding comesBefore thenBy
+    before-level d r R = rw (← T, e, ← U, d) R
+
+-- ---- it is an order
+
+near-first : Ordered nearer
+near-first = nearer-ordered (λ (c : Candidate). c .far)
+
+long-first : Ordered longer
+long-first = turned-ordered (λ (a b : Candidate). ltb (a .points) (b .points)) (lower-ordered (λ (c : Candidate). c .points))
+
+early-first : Ordered earlier
+early-first = lower-ordered (λ (c : Candidate). c .at)
+
+before-ordered : Ordered comesBefore
+unfolding comesBefore
+before-ordered = then-ordered nearer (thenBy longer earlier) near-first (then-ordered longer earlier long-first early-first)
+
+-- of two with different numbers one comes before the other
+before-one : (a b : Candidate) → comesBefore a b ≡ false → comesBefore b a ≡ false → a .at ≡ b .at
+unfolding comesBefore
+before-one a b d e =
+    then-equal nearer (thenBy longer earlier) near-first (then-ordered longer earlier long-first early-first) a b d e
+    (λ _ _ f g. then-equal longer earlier long-first early-first a b f g (λ _ _ h k. omega (arith, ltb-false (a .at) (b .at) h, ltb-false (b .at) (a .at) k)))
+
+-- ---- the next one
 
 module _ (m : ℕ) (rows : List ℕ) (pts : List Float) (to : Vec2) where
   abbrev all : List Piece
   all = piecesAt m rows pts
 
-  -- the distance of row k's piece
-  row-far : (k : ℕ) → k < m → (r : Row) (d : Float) → r ≡ rowAt rows k → d ≡ pieceFar (pieceOf r pts) to → d ≡ farAt all to k
-  row-far k h r d R D = D ∙ ap (λ (q : Row). pieceFar (pieceOf q pts) to) R ∙ ap (λ (p : Piece). pieceFar p to) (sym (piece-get m k rows pts noPiece h))
+  -- of the pieces of the rows before k the one that comes first so far
+  abbrev pub Foremost : Candidate → ℕ → Type 0
+  Foremost b k = Leads comesBefore (candidateAt all to) m (b .at) b k
 
-  pub next-turn : (k : ℕ) → k < m → (r : Row) (d : Float) (b b′ : Near) → r ≡ rowAt rows k → d ≡ pieceFar (pieceOf r pts) to → b′ ≡ nearer b k d → b′ ≡ nearStep (farAt all to) k b
-  unfolding nearStep
-  next-turn k h r d b b′ R D B = B ∙ ap (nearer b k) (row-far k h r d R D)
+  row-candidate : (k : ℕ) → k < m → (c : Candidate) → c ≡ candidateOf (pieceOf (rowAt rows k) pts) to k → c ≡ candidateAt all to k
+  row-candidate k h c C = C ∙ ap (λ (p : Piece). candidateOf p to k) (sym (piece-get m k rows pts noPiece h))
 
-  pub next-end : 1 ≤ m → (r : Row) (d : Float) → r ≡ rowAt rows 0 → d ≡ pieceFar (pieceOf r pts) to → (b : Near) → b ≡ loop (nearStep (farAt all to)) 1 m (nr 0 d) → b .at ≡ nextOf all to
+  pub next-first : 1 ≤ m → (c : Candidate) → c ≡ candidateOf (pieceOf (rowAt rows 0) pts) to 0 → Foremost c 1
+  unfolding candidateOf
+  next-first h c C =
+      subst (λ (k : ℕ). Leads comesBefore (candidateAt all to) m k c 1) (sym (ap (λ (d : Candidate). d .at) C)) (leads-first comesBefore (candidateAt all to) m c (row-candidate 0 h c C))
+
+  module _ (k : ℕ) (h : k < m) (c b : Candidate) (C : c ≡ candidateOf (pieceOf (rowAt rows k) pts) to k) (l : Foremost b k) (t : Bool) (T : t ≡ comesBefore c b) (r : Candidate) where
+    pub next-new : t ≡ true → r ≡ c → Foremost r (k + 1)
+    unfolding candidateOf
+    next-new e R =
+        subst (λ (q : Candidate). Foremost q (k + 1)) (sym R)
+        (subst (λ (j : ℕ). Leads comesBefore (candidateAt all to) m j c (k + 1)) (sym (ap (λ (d : Candidate). d .at) C))
+        (leads-new comesBefore (candidateAt all to) m (b .at) b k l h c (row-candidate k h c C) (sym T ∙ e)))
+
+    pub next-on : t ≡ false → r ≡ b → Foremost r (k + 1)
+    next-on e R = subst (λ (q : Candidate). Foremost q (k + 1)) (sym R) (leads-on comesBefore (candidateAt all to) m (b .at) b k l h c (row-candidate k h c C) (sym T ∙ e))
+
+  pub next-end : (b : Candidate) (k : ℕ) → Foremost b k → m ≤ k → b .at ≡ nextOf all to
   unfolding nextOf
-  next-end h r d R D b B = least-end (farAt all to) m d (row-far 0 h r d R D) b B ∙ ap (leastBy (farAt all to)) (sym (pieces-length m rows pts))
+  next-end b k l h = leads-end comesBefore (candidateAt all to) m (b .at) b k l h ∙ ap (leastBy comesBefore (candidateAt all to)) (sym (pieces-length m rows pts))
 
 module _ (l : List Piece) (to : Vec2) (h : 0 < length l) where
   -- it is one of them
   pub next-below : nextOf l to < length l
   unfolding nextOf
-  next-below = least-below (farAt l to) (length l) h
+  next-below = least-below comesBefore (candidateAt l to) (length l) h
 
-  -- and none is nearer in the total order
-  pub next-least : (j : ℕ) → j < length l → rankOf (farAt l to (nextOf l to)) ≤ rankOf (farAt l to j)
+  -- and none comes before it
+  pub next-least : (j : ℕ) → j < length l → comesBefore (candidateAt l to j) (candidateAt l to (nextOf l to)) ≡ false
   unfolding nextOf
-  next-least j b = least-least (farAt l to) (length l) h j b
+  next-least j b = least-first comesBefore (candidateAt l to) before-ordered (length l) h j b
+
+  -- so it comes before all others
+  pub next-before : (j : ℕ) → j < length l → (j ≡ nextOf l to → ⊥) → comesBefore (candidateAt l to (nextOf l to)) (candidateAt l to j) ≡ true
+  unfolding candidateOf
+  next-before j b n =
+      by-cases (comesBefore (candidateAt l to (nextOf l to)) (candidateAt l to j)) (λ e. e) (λ e. absurd (n (before-one (candidateAt l to j) (candidateAt l to (nextOf l to)) (next-least j b) e)))

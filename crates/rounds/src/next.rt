@@ -1,21 +1,28 @@
-// Which piece is cut next: the nearest to the tool, the first on a tie.
+// Which piece is cut next: the nearest to the tool, of equally near ones the one with more points, of such the earlier.
 ghost use mathlib.Core.Path.{_≡_};
 ghost use mathlib.Core.Bool.{false};
-ghost use Prim.Native.Nat.{_+_, _*_, _≤_};
+ghost use Prim.Native.Nat.{_+_, _*_, _≤_, _<_};
 ghost use lib.ListN.{length};
 ghost use lib.Ieee.{inf};
 ghost use Rattle.loops.specs.Each.{over};
+ghost use Rattle.loops.specs.Least.{thenBy};
 ghost use Rattle.geom.specs.Points.{points};
-ghost use Rattle.pieces.specs.Piece.{pieceOf, piecesAt};
-ghost use Rattle.rounds.specs.Next.{hereOf, closer, pieceFar, nextOf, Read, Readable};
+ghost use Rattle.pieces.specs.Piece.{rowAt, pieceOf, piecesAt};
+ghost use Rattle.rounds.specs.Next.{hereOf, closer, pieceFar, candidateOf, longer, earlier, comesBefore, nextOf, Read, Readable};
 use geom::region::vertex;
 use geom::vec2::Vec2;
 use numbers::order::min;
-use passes::start::Near;
 use passes::start::Place;
-use passes::start::nearer;
+use passes::start::is_nearer;
 use pieces::row::Row;
 use pieces::row::row_at;
+
+// What a piece is chosen by; `at` is its number.
+pub struct Candidate {
+    pub far: f64,
+    pub points: u32,
+    pub at: usize,
+}
 
 // Where distances are measured from; the origin while the tool is nowhere.
 pub fn here(pos: Place) -> Vec2
@@ -51,17 +58,54 @@ fn far(pts: &[f64], r: Row, to: Vec2) -> f64
     vertex(pts, first).distance(to)
 }
 
-// The number of the nearest of the first m rows' pieces.
+// What row k's piece is chosen by.
+fn candidate_at(rows: &[u32], pts: &[f64], k: usize, to: Vec2) -> Candidate
+    requires { ⌜ 3 * k + 2 < length (now rows) ⌝ }
+    requires { ⌜ Read (rowAt (now rows) k) (now pts) ⌝ }
+    ensures { λ c. ⌜ c ≡ candidateOf (pieceOf (rowAt (now (rows .entry)) k) (now (pts .entry))) to k ⌝ }
+{
+    let r = row_at(rows, k);
+    Candidate {
+        far: far(pts, r, to),
+        points: r.points,
+        at: k,
+    }
+}
+
+// Whether a comes before b where they are equally near: it has more points, or as many and is the earlier.
+fn ahead(a: Candidate, b: Candidate) -> bool
+    ensures { λ r. ⌜ r ≡ thenBy longer earlier a b ⌝ }
+{
+    if a.points == b.points {
+        return a.at < b.at;
+    }
+    a.points > b.points
+}
+
+fn comes_before(a: Candidate, b: Candidate) -> bool
+    ensures { λ r. ⌜ r ≡ comesBefore a b ⌝ }
+{
+    if is_nearer(a.far, b.far) {
+        return true;
+    }
+    if is_nearer(b.far, a.far) {
+        return false;
+    }
+    ahead(a, b)
+}
+
+// The number of the piece that comes before all others of the first m rows.
 pub fn nearest(rows: &[u32], pts: &[f64], m: usize, to: Vec2) -> usize
     requires { ⌜ Readable m (now rows) (now pts) ⌝ }
     requires { ⌜ 1 ≤ m ⌝ }
     ensures { λ k. ⌜ k ≡ nextOf (piecesAt m (now (rows .entry)) (now (pts .entry))) to ⌝ }
 {
-    let d = far(pts, row_at(rows, 0), to);
-    let mut best = Near { at: 0, far: d };
+    let mut best = candidate_at(rows, pts, 0, to);
     for k in 1..m {
-        let d = far(pts, row_at(rows, k), to);
-        best = nearer(best, k, d);
+        let c = candidate_at(rows, pts, k, to);
+        if comes_before(c, best) {
+            best = c;
+        }
     }
     best.at
 }

@@ -1,17 +1,14 @@
 -- `passes::start::nearest` meets its contract. Assumes nothing.
 use Prim.Native.Nat.{_-_}
 use native.Mathlib.Omega.{arith}
-use Rattle.loops.proofs.LoopLaws.{Going, going-none, going-more, going-end}
-use Rattle.geom.specs.Points.{points}
-use Rattle.passes.specs.Start.{nr, nearStep, pointFar}
 use Rattle.passes.proofs.SimulateLaws.{half-some}
-use Rattle.passes.proofs.StartLaws.{near-turn, near-end}
+use Rattle.passes.proofs.StartLaws.{Nearest, near-first, near-turn, near-end}
 use borrow.Author.Needs.{needs}
 use Rattle.passes.proofs.start.nearest.Statement.{statement}
 use Rattle.passes.proofs.start.nearest.Tie as tie
 
 abbrev Inv-loop : tie.InvT-loop
-Inv-loop piece p n d best₀ k₀ best k = Going (nearStep (pointFar (points 0 n piece) p)) 1 n (nr 0 d) best k
+Inv-loop piece p n d best₀ k₀ best k = Nearest piece n p best k
 
 abbrev μ-loop : tie.MeasureT-loop
 μ-loop piece p n d best₀ k₀ best k = n - k
@@ -23,7 +20,7 @@ distance-requires : tie.Need-distance-requires Inv-loop μ-loop
 distance-requires c κs = search needs
 
 loop-holds : tie.Need-loop-holds Inv-loop μ-loop
-loop-holds c = going-none _ _ _ _
+loop-holds c = near-first _ _ _ (half-some _ (c .before .before .before .pre)) _ _ (c .before .vertex .ensures) (c .distance .ensures)
 
 vertex-requires-2 : tie.Need-vertex-requires-2 Inv-loop μ-loop
 vertex-requires-2 c κs = omega arith
@@ -41,10 +38,10 @@ loop-less : tie.Need-loop-less Inv-loop μ-loop
 loop-less c = omega arith
 
 loop-again : tie.Need-loop-again Inv-loop μ-loop
-loop-again c = going-more _ _ _ _ _ _ _ (c .before .before .before .before .loop .inv) (c .before .before .before .loop-test .taken) (near-turn _ _ _ _ (c .before .before .before .loop-test .taken) _ _ _ _ (c .before .before .vertex2 .ensures) (c .before .distance2 .ensures) (c .nearer .ensures))
+loop-again c = near-turn _ _ _ _ (c .before .before .before .loop-test .taken) _ _ _ _ (c .before .before .vertex2 .ensures) (c .before .distance2 .ensures) (c .nearer .ensures) (c .before .before .before .before .loop .inv)
 
 returns : tie.Need-returns Inv-loop μ-loop
-returns c = near-end _ _ _ (half-some _ (c .before .before .before .before .before .pre)) _ _ (c .before .before .before .vertex .ensures) (c .before .before .distance .ensures) _ (going-end _ _ _ _ _ _ (c .before .loop .inv) (c .loop-test .left))
+returns c = near-end _ _ _ _ _ (c .before .loop .inv) (c .loop-test .left)
 
 pub nearest-spec : {M : Type 1} → statement M
 nearest-spec =
