@@ -4,7 +4,7 @@ use crate::noisy::Noisy;
 use crate::planner::{Answer, Report, Slices, adaptive_clear, numbers, report};
 use crate::raw::Raw;
 use oracle::entry;
-use oracle::fills::{agree, expected};
+use oracle::expected::{Expected, expected};
 use oracle::generate::Rng;
 use oracle::job::{self, Job};
 use oracle::run::Plan;
@@ -126,38 +126,44 @@ fn shown(fault: String, job: &Job) -> String {
 pub struct Same {
     /// The number of the answer, 0 for accepted.
     pub number: u32,
-    /// Whether the print's fill sets the same cells as the changed one. Then the oracle's plan is the print's; else it is
-    /// made from the changed fill.
+    /// Whether the print's fill sets the same cells as the changed one; else the oracle's plan is by the changed fill.
     pub fills_agree: bool,
+    /// Whether the print's order gives the same answer as the changed one; else the oracle's plan is in the changed order.
+    pub orders_agree: bool,
+}
+
+/// Plans the job as it is lent: how it was answered, or the difference from what is expected.
+fn beside(r: &mut Rng, raw: &Raw, want: &Expected) -> Result<Same, String> {
+    let got = Planned::new(r, raw);
+    match got.fault(&want.outcome.answer) {
+        Some(fault) => Err(fault),
+        None => Ok(Same {
+            number: got.answer.refused,
+            fills_agree: want.fills_agree,
+            orders_agree: want.orders_agree,
+        }),
+    }
 }
 
 /// Plans the job on both sides: how it was answered, or the difference and the job's text.
 pub fn compared(r: &mut Rng, job: &Job) -> Result<Same, String> {
     let job = trimmed(job);
     let raw = Raw::varied(r, &job);
-    let (got, want) = (Planned::new(r, &raw), expected(&job, false).answer);
-    if let Some(fault) = got.fault(&want) {
-        return Err(shown(fault, &job));
-    }
+    let same = beside(r, &raw, &expected(&job, false)).map_err(|fault| shown(fault, &job))?;
     let (rows, triples) = PLENTY;
-    match got.answer.refused {
+    match same.number {
         16 if job.lent_triples == triples => Err(shown("more triples are needed than plenty".into(), &job)),
         17 if job.lent_rows == rows => Err(shown("more rows are needed than plenty".into(), &job)),
-        number => Ok(Same { number, fills_agree: agree(&job) }),
+        _ => Ok(same),
     }
 }
 
 /// The same of a job as it is lent, which was made from `of`. Where its regions are no regions at all the answer is 13,
 /// if no earlier question is answered no.
 pub fn compared_raw(r: &mut Rng, raw: &Raw, of: &Job) -> Result<Same, String> {
-    let job = raw.job(of);
-    let want = match &job {
-        Some(job) => expected(job, false).answer,
-        None => Err(entry::refused(of).map_or(13, |number| number.min(13))),
+    let want = match raw.job(of) {
+        Some(job) => expected(&job, false),
+        None => Expected::refused(entry::refused(of).map_or(13, |number| number.min(13))),
     };
-    let got = Planned::new(r, raw);
-    match got.fault(&want) {
-        Some(fault) => Err(format!("{fault}\n{raw:?}")),
-        None => Ok(Same { number: got.answer.refused, fills_agree: job.as_ref().is_none_or(agree) }),
-    }
+    beside(r, raw, &want).map_err(|fault| format!("{fault}\n{raw:?}"))
 }

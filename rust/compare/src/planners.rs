@@ -4,6 +4,7 @@ use oracle::entry;
 use oracle::generate::{self, Rng};
 use oracle::hooks::Hooks;
 use oracle::job::Job;
+use oracle::order::Places;
 use oracle::planner::{Chunk, Piece, Planner, smooth};
 use oracle::vec2::{Vec2, v2};
 
@@ -136,8 +137,8 @@ fn cut_nearest(p: &mut Planner, mut pieces: Vec<Piece>, cutter: &mut impl Cutter
             true => piece.pts.iter().map(|q| q.distance(here)).fold(f64::INFINITY, f64::min),
             false => piece.pts[0].distance(here),
         };
-        let nearest = pieces.iter().map(far).enumerate().min_by(|a, b| a.1.total_cmp(&b.1));
-        let piece = pieces.swap_remove(nearest.map_or(0, |(k, _)| k));
+        let next = pieces.iter().map(far).enumerate().next_piece(&pieces, p.hooks);
+        let piece = pieces.swap_remove(next.map_or(0, |(k, _)| k));
         any |= cutter.cut(p, &piece);
     }
     any

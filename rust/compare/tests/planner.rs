@@ -2,28 +2,37 @@
 //! the lent slices, which are full of noise.
 use compare::planned::{Planned, compared, trimmed};
 use compare::raw::Raw;
+use oracle::expected::expected;
 use oracle::generate::{self, Rng};
 use oracle::job::Job;
-use oracle::run::{Plan, run};
+use oracle::run::Plan;
 use oracle::stored::{names, small, stored};
 
-/// How many jobs had each answer, by number, 0 for accepted: where the two fills agree, and where they disagree.
+/// How many jobs there were.
 #[derive(Default)]
-struct Met([[usize; 19]; 2]);
+struct Met {
+    /// With each answer, by number, 0 for accepted: where the two fills agree, and where they disagree.
+    answers: [[usize; 19]; 2],
+    /// Whose answer the order of equally near pieces changes.
+    ordered: usize,
+}
 
 impl Met {
     fn add(&mut self, r: &mut Rng, job: &Job, name: &str) {
         let same = compared(r, job).unwrap_or_else(|fault| panic!("{name}: {fault}"));
-        self.0[!same.fills_agree as usize][same.number as usize] += 1;
+        self.answers[!same.fills_agree as usize][same.number as usize] += 1;
+        self.ordered += !same.orders_agree as usize;
     }
 
-    /// So many jobs at least, every answer among them; and so many accepted where the fills agree and where they disagree.
-    fn all(&self, jobs: usize, accepted: [usize; 2]) {
-        let Met([agree, disagree]) = self;
+    /// So many jobs at least, every answer among them; so many accepted where the fills agree and where they disagree; and so
+    /// many whose answer the order changes.
+    fn all(&self, jobs: usize, accepted: [usize; 2], ordered: usize) {
+        let Met { answers: [agree, disagree], ordered: changed } = self;
         let [first, second] = [agree, disagree].map(|met| met.iter().sum::<usize>());
         println!("the fills agree on {first} jobs: {agree:?}\nthey disagree on {second}: {disagree:?}");
+        println!("the order changes the answer of {changed}");
         assert!(first + second >= jobs && agree.iter().zip(disagree).all(|(a, b)| a + b > 0));
-        assert!(agree[0] >= accepted[0] && disagree[0] >= accepted[1]);
+        assert!(agree[0] >= accepted[0] && disagree[0] >= accepted[1] && *changed >= ordered);
     }
 }
 
@@ -33,10 +42,10 @@ fn stored_jobs() {
     for name in names() {
         met.add(&mut r, &stored(&name), &name);
     }
-    met.all(200, [100, 20]);
+    met.all(200, [100, 20], 4);
 }
 
-/// Jobs of all kinds on small rasters; on the borders of the questions more, and where the two fills part.
+/// Jobs of all kinds on small rasters; on the borders of the questions more, and where the two fills or the two orders part.
 #[test]
 fn generated_jobs() {
     let (mut r, mut met) = (Rng(52), Met::default());
@@ -51,6 +60,7 @@ fn generated_jobs() {
         (Some("stockisles"), 8_000..8_080),
         (Some("crossed"), 8_000..8_080),
         (Some("crossisles"), 8_000..8_080),
+        (Some("mirrored"), 8_000..8_300),
     ] {
         for seed in seeds {
             let (job, kind) = generate::job(seed, kind).unwrap();
@@ -59,7 +69,7 @@ fn generated_jobs() {
             }
         }
     }
-    met.all(1_000, [200, 100]);
+    met.all(1_000, [200, 100], 25);
 }
 
 /// A plan that is another one in a single place is told apart.
@@ -67,7 +77,7 @@ fn generated_jobs() {
 fn differences_are_seen() {
     let job = trimmed(&stored("doc-res-0.1"));
     let got = Planned::new(&mut Rng(53), &Raw::new(&job));
-    let plan = run(&job, false).answer.unwrap();
+    let plan = expected(&job, false).outcome.answer.unwrap();
     assert_eq!(got.fault(&Ok(plan.clone())), None);
     let changes: [fn(&mut Plan); 8] = [
         |p| p.report.links += 1,

@@ -22,7 +22,7 @@ pub const EDITS: &[Edit] = &[
         1,
         "vectors and the house cosine, by document 01",
         "use anvil_kernel::{Vec2, Vec3, v2, v3};\n",
-        "use crate::circle::cos;\nuse crate::hooks::{Event, Hooks, join, lower_first, timed};\nuse crate::vec2::{Vec2, v2};\n",
+        "use crate::circle::cos;\nuse crate::hooks::{Event, Hooks, join, lower_first, timed};\nuse crate::order::Places;\nuse crate::vec2::{Vec2, v2};\n",
     ),
     replace(3, "house cosine", "self.target.cos()", "cos(self.target)"),
     replace(1, "house cosine", "(PI * s / len).cos()", "cos(PI * s / len)"),
@@ -35,6 +35,13 @@ pub const EDITS: &[Edit] = &[
         "        self.f.total_cmp(&o.f).then_with(|| lower_first(self.id, o.id))\n",
     ),
     replace(1, "may be switched to a known mistake", "next.insert(a, b);", "join(&mut next, a, b);"),
+    // `Places::next_piece` in ../src/order.rs is this choice, or the changed order's.
+    replace(
+        1,
+        "of equally near pieces the earlier, or by the switch the longer",
+        ".min_by(|a, b| a.1.total_cmp(&b.1))",
+        ".next_piece(&pieces, self.hooks)",
+    ),
     // No registry crates.
     replace(1, "no serde", "use serde::{Deserialize, Serialize};\n", ""),
     replace(2, "no serde", ", Serialize, Deserialize)]", ")]"),

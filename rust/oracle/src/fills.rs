@@ -4,8 +4,7 @@ use crate::entry;
 use crate::geom::Region;
 use crate::job::Job;
 use crate::raster::Grid;
-use crate::run::{Outcome, run};
-use crate::switches::{self, Switches};
+use crate::switches;
 use crate::vec2::Vec2;
 
 impl Grid {
@@ -77,18 +76,4 @@ pub fn agree(job: &Job) -> bool {
         changed.fill_region_contained(region, true);
         printed.data == changed.data
     })
-}
-
-/// Works with the fill that the job's answer is expected by: the print's own where the two agree, else the changed one.
-pub fn with_expected<T>(job: &Job, work: impl FnOnce() -> T) -> T {
-    let before = switches::get();
-    switches::set(Switches { fill_contains: !agree(job), ..before });
-    let done = work();
-    switches::set(before);
-    done
-}
-
-/// The job run by that fill.
-pub fn expected(job: &Job, record: bool) -> Outcome {
-    with_expected(job, || run(job, record))
 }

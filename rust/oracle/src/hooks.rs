@@ -50,6 +50,8 @@ pub struct Hooks {
     pub refused: Option<u32>,
     pub given_up: usize,
     pub spent: bool,
+    /// Choices of a piece at which the two orders part.
+    pub parted: usize,
     /// Whether events are recorded.
     pub record: bool,
     pub events: Vec<Happened>,
@@ -65,6 +67,7 @@ impl Hooks {
             refused: None,
             given_up: 0,
             spent: false,
+            parted: 0,
             record,
             events: Vec::new(),
             times: Times::default(),

@@ -4,10 +4,12 @@
 //! what the print leaves open, the job format, a generator of jobs, and a replay written apart.
 pub mod circle;
 pub mod entry;
+pub mod expected;
 pub mod fills;
 pub mod generate;
 pub mod hooks;
 pub mod job;
+pub mod order;
 pub mod replay;
 pub mod rim;
 pub mod run;

@@ -23,9 +23,18 @@ pub struct Outcome {
     /// The plan, or the number of the question answered no.
     pub answer: Result<Plan, u32>,
     pub events: Vec<Happened>,
+    /// Choices of a piece at which the two orders part.
+    pub parted: usize,
     pub times: Times,
     /// On-CPU nanoseconds of the whole `adaptive_clear`.
     pub cpu_ns: u64,
+}
+
+impl Outcome {
+    /// The answer no to a question before planning.
+    pub fn refused(number: u32) -> Outcome {
+        Outcome { answer: Err(number), events: Vec::new(), parted: 0, times: Times::default(), cpu_ns: 0 }
+    }
 }
 
 /// On-CPU nanoseconds of this thread so far; 0 where the system does not tell.
@@ -38,10 +47,10 @@ pub fn cpu_ns() -> u64 {
 
 /// Runs a job; `record` keeps its events.
 pub fn run(job: &Job, record: bool) -> Outcome {
-    let mut hooks = Hooks::new(job.lent_triples, job.lent_rows, record);
-    if let Some(n) = entry::refused(job) {
-        return Outcome { answer: Err(n), events: Vec::new(), times: hooks.times, cpu_ns: 0 };
+    if let Some(number) = entry::refused(job) {
+        return Outcome::refused(number);
     }
+    let mut hooks = Hooks::new(job.lent_triples, job.lent_rows, record);
     let (region, stock) = job.regions();
     let start = cpu_ns();
     let result = adaptive_clear(&region, stock.as_deref(), &job.params, &mut hooks);
@@ -56,7 +65,7 @@ pub fn run(job: &Job, record: bool) -> Outcome {
             Ok(Plan { report: result.report, rows, triples, nx, ny, map: result.map.data })
         }
     };
-    Outcome { answer, events: hooks.events, times: hooks.times, cpu_ns }
+    Outcome { answer, events: hooks.events, parted: hooks.parted, times: hooks.times, cpu_ns }
 }
 
 /// Rows and triples of a chunk list (document 01, "The chunk list").

@@ -1,5 +1,6 @@
 //! The two fills of a region on small maps, cells counted by hand; which of them a job's answer is expected by.
-use oracle::fills::{agree, expected, with_expected};
+use oracle::expected::expected;
+use oracle::fills::agree;
 use oracle::generate::Rng;
 use oracle::geom::Region;
 use oracle::job::{self, Job};
@@ -182,11 +183,11 @@ fn boss(wide: f64) -> Job {
 /// islands agree; without a raster there is nothing to differ.
 #[test]
 fn which_fill_is_expected() {
-    let starting = |job: &Job| expected(job, false).answer.unwrap().report.starting_cells;
+    let starting = |job: &Job| expected(job, false).outcome.answer.unwrap().report.starting_cells;
     let beside = boss(-0.5);
     assert!(agree(&beside));
     assert_eq!(starting(&beside), 120 * 120 - 15 * 15 - 5 * 15);
-    assert_eq!(print(&expected(&beside, false), false), print(&run(&beside, false), false));
+    assert_eq!(print(&expected(&beside, false).outcome, false), print(&run(&beside, false), false));
     let over = boss(0.5);
     assert!(!agree(&over));
     assert_eq!(starting(&over), 120 * 120 - 25 * 15);
@@ -194,7 +195,7 @@ fn which_fill_is_expected() {
     let mut none = over.clone();
     none.params.tool_diameter = 0.0;
     assert!(agree(&none));
-    assert_eq!(expected(&none, false).answer.err(), Some(1));
+    assert_eq!(expected(&none, false).outcome.answer.err(), Some(1));
 }
 
 /// Stock regions count too, each by itself: two that overlap agree.
@@ -213,14 +214,13 @@ fn fills_of_stock() {
     assert!(!agree(&job));
 }
 
-/// The other switches hold meanwhile, and the switch is as it was before.
+/// The other switches hold meanwhile, and all are as they were before.
 #[test]
-fn the_switch_is_restored() {
-    let held = Switches { buckets: true, ..Switches::default() };
-    switches::set(held);
-    for (job, changed) in [(boss(0.5), true), (stored("doc-res-0.1"), false)] {
-        let now = with_expected(&job, switches::get);
-        assert_eq!((now.fill_contains, now.buckets), (changed, true));
-        assert_eq!((switches::get().fill_contains, switches::get().buckets), (false, true));
-    }
+fn the_switches_are_restored() {
+    let job = stored("00054-ell");
+    let plan = || print(&expected(&job, false).outcome, false);
+    let held = Switches { higher_first: true, ..Switches::default() };
+    let (mistaken, after) = switches::with(held, || (plan(), switches::get()));
+    assert_eq!((after, switches::get()), (held, Switches::default()));
+    assert_ne!(mistaken, plan());
 }

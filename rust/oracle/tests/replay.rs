@@ -1,5 +1,5 @@
 //! Every rule of term 3 by replay, on generated jobs; and that the replay finds damage.
-use oracle::fills::{agree, with_expected};
+use oracle::expected::{Expected, expected};
 use oracle::generate;
 use oracle::hooks::Event;
 use oracle::job::Job;
@@ -10,32 +10,31 @@ use oracle::switches::{self, Switches};
 use std::sync::OnceLock;
 use std::sync::atomic::{AtomicUsize, Ordering};
 
-/// Jobs of all kinds, apart from the stored ones, on two threads; each by the fill that is expected, replay and all.
+/// Jobs of all kinds, apart from the stored ones, on two threads; each by the fill and in the order that are expected.
 #[test]
 fn generated_jobs_replay_without_a_fault() {
     let mut seeds: Vec<(u64, Option<&str>)> = (1000..1448).map(|seed| (seed, None)).collect();
     seeds.extend(generate::NAMED.iter().flat_map(|kind| (1000..1020).map(move |seed| (seed, Some(*kind)))));
     let next = AtomicUsize::new(0);
     let worker = || {
-        let mut met = [0; 6];
+        let mut met = [0; 7];
         while let Some(&(seed, kind)) = seeds.get(next.fetch_add(1, Ordering::Relaxed)) {
             let (job, kind) = generate::job(seed, kind).unwrap();
             if !quick(&job) {
                 continue;
             }
-            let (outcome, found) = with_expected(&job, || {
-                let outcome = run(&job, true);
-                let found = faults(&job, &outcome);
-                (outcome, found)
-            });
+            let Expected { outcome, fills_agree, orders_agree } = expected(&job, true);
+            let how = Switches { fill_contains: !fills_agree, ..Switches::default() };
+            let found = switches::with(how, || faults(&job, &outcome));
             assert!(found.is_empty(), "seed {seed} {kind}: {:?}", &found[..found.len().min(5)]);
             met[0] += 1;
             if let Ok(plan) = &outcome.answer {
                 let withdrawn = outcome.events.iter().filter(|h| h.event == Event::Withdrawn).count();
-                let changed = !agree(&job) && !plan.rows.is_empty();
+                let filled = !fills_agree && !plan.rows.is_empty();
                 for (met, more) in met[1..].iter_mut().zip([
                     1,
-                    changed as usize,
+                    filled as usize,
+                    !orders_agree as usize,
                     outcome.events.len(),
                     withdrawn,
                     plan.report.links,
@@ -50,13 +49,13 @@ fn generated_jobs_replay_without_a_fault() {
         let threads = [s.spawn(worker), s.spawn(worker)];
         threads.map(|t| t.join().unwrap()).into_iter().reduce(|a, b| std::array::from_fn(|k| a[k] + b[k]))
     });
-    let [jobs, accepted, changed, events, withdrawn, links] = totals.unwrap();
+    let [jobs, accepted, filled, ordered, events, withdrawn, links] = totals.unwrap();
     println!(
-        "{jobs} jobs, {accepted} accepted, {changed} of them with rows where the fills disagree; {events} events, \
-         {withdrawn} withdrawn, {links} links"
+        "{jobs} jobs, {accepted} accepted, {filled} of them with rows where the fills disagree, {ordered} whose plan \
+         the order changes; {events} events, {withdrawn} withdrawn, {links} links"
     );
     // Enough of each for the test to mean something.
-    assert!(jobs > 200 && accepted > 100 && changed > 40);
+    assert!(jobs > 200 && accepted > 100 && filled > 40 && ordered > 6);
     assert!(events > 5_000 && withdrawn > 300 && links > 1000);
 }
 
@@ -67,14 +66,11 @@ fn a_start_from_the_other_fill_is_found() {
     let [printed, changed] =
         [false, true].map(|fill_contains| Switches { fill_contains, ..Switches::default() });
     for (planned, replayed) in [(printed, changed), (changed, printed)] {
-        switches::set(planned);
-        let outcome = run(&job, true);
-        assert!(faults(&job, &outcome).is_empty());
-        switches::set(replayed);
-        let bad = faults(&job, &outcome);
+        let outcome = switches::with(planned, || run(&job, true));
+        assert!(switches::with(planned, || faults(&job, &outcome)).is_empty());
+        let bad = switches::with(replayed, || faults(&job, &outcome));
         assert!(bad.iter().any(|fault| fault.contains("starting cells")), "{bad:?}");
     }
-    switches::set(Switches::default());
 }
 
 /// A plan with passes withdrawn, a helix place given up, a link refused, plunges and links.
@@ -278,30 +274,34 @@ fn damaged_events_are_found() {
     });
 }
 
-/// Two mistakes that document 01 names change plans of the stored jobs: a port that makes them is
-/// found by comparing these.
+/// The plan's text, with these switches.
+fn planned(job: &Job, how: Switches) -> String {
+    switches::with(how, || print(&run(job, false), false))
+}
+
+/// Two mistakes that document 01 names, and two in the changed order, change plans of the stored jobs: a port that makes
+/// them is found by comparing these.
 #[test]
 fn stored_jobs_tell_the_known_mistakes() {
-    let higher = Switches { higher_first: true, ..Switches::default() };
-    let first = Switches { first_wins: true, ..Switches::default() };
-    for (name, wrong) in [("00054-ell", higher), ("00092-exact", first)] {
+    let usual = Switches::default();
+    let longer = Switches { longer_first: true, ..usual };
+    for (name, right, wrong) in [
+        ("00054-ell", usual, Switches { higher_first: true, ..usual }),
+        ("00092-exact", usual, Switches { first_wins: true, ..usual }),
+        ("45044-mirrored", longer, Switches { fewer_first: true, ..longer }),
+        ("45055-mirrored", longer, Switches { later_first: true, ..longer }),
+    ] {
         let job = stored(name);
-        let right = print(&run(&job, false), false);
-        switches::set(wrong);
-        let mistaken = print(&run(&job, false), false);
-        switches::set(Switches::default());
-        assert_ne!(right, mistaken, "{name}");
+        assert_ne!(planned(&job, right), planned(&job, wrong), "{name}");
     }
 }
 
 /// The ways to run the planner that must not matter.
 #[test]
 fn printed_rim_and_buckets_give_the_same_plans() {
+    let printed = Switches { plain_rim: true, buckets: true, ..Switches::default() };
     for name in ["00003-star", "00009-tiny", "00013-outisland", "00017-aligned"] {
         let job = stored(name);
-        let usual = print(&run(&job, false), false);
-        switches::set(Switches { plain_rim: true, buckets: true, ..Switches::default() });
-        assert_eq!(print(&run(&job, false), false), usual, "{name}");
-        switches::set(Switches::default());
+        assert_eq!(planned(&job, printed), planned(&job, Switches::default()), "{name}");
     }
 }

@@ -22,17 +22,21 @@ struct Asked {
     threads: usize,
 }
 
-/// How often each kind was answered by each number, 0 for accepted, where the two fills agree and where they disagree; and
-/// what differed.
+/// How often each kind was answered by each number, 0 for accepted, where the two fills agree and where they disagree; how
+/// often the order of equally near pieces changes the answer; and what differed.
 struct Tally {
     answers: [[[usize; 19]; KINDS]; 2],
+    ordered: [usize; KINDS],
     differences: usize,
 }
 
 impl Tally {
     fn add(&mut self, k: usize, answer: Result<Same, String>) {
         match answer {
-            Ok(same) => self.answers[!same.fills_agree as usize][k][same.number as usize] += 1,
+            Ok(same) => {
+                self.answers[!same.fills_agree as usize][k][same.number as usize] += 1;
+                self.ordered[k] += !same.orders_agree as usize;
+            }
             Err(fault) => {
                 self.differences += 1;
                 println!("difference {}: {fault}", self.differences);
@@ -42,8 +46,8 @@ impl Tally {
 
     fn print(&self) {
         println!(
-            "{:12} {:>6} {:>9} {:>8} {:>6} {:>6} {:>6} {:>15}",
-            "kind", "jobs", "accepted", "1 to 15", "16", "17", "18", "fills disagree"
+            "{:12} {:>6} {:>9} {:>8} {:>6} {:>6} {:>6} {:>15} {:>15}",
+            "kind", "jobs", "accepted", "1 to 15", "16", "17", "18", "fills disagree", "order changes"
         );
         let [agree, disagree] = &self.answers;
         for k in 0..KINDS {
@@ -52,8 +56,8 @@ impl Tally {
             let [all, other]: [usize; 2] = [by, disagree[k]].map(|by| by.iter().sum());
             let name = kind(k);
             println!(
-                "{name:12} {all:6} {:9} {early:8} {:6} {:6} {:6} {other:15}",
-                by[0], by[16], by[17], by[18]
+                "{name:12} {all:6} {:9} {early:8} {:6} {:6} {:6} {other:15} {:15}",
+                by[0], by[16], by[17], by[18], self.ordered[k]
             );
         }
         let sum =
@@ -65,11 +69,12 @@ impl Tally {
             let jobs: usize = side.iter().flatten().sum();
             println!("the fills {what}: {jobs} jobs, {} accepted", sum(side, 0));
         }
+        println!("the order changes the answer of {} jobs", self.ordered.iter().sum::<usize>());
     }
 }
 
 fn asked(words: &[String]) -> Option<Asked> {
-    let mut asked = Asked { jobs: 6_800, seed: 1, threads: 1 };
+    let mut asked = Asked { jobs: 7_000, seed: 1, threads: 1 };
     for pair in words.chunks(2) {
         let value = pair.get(1)?.parse().ok()?;
         match pair[0].as_str() {
@@ -84,8 +89,8 @@ fn asked(words: &[String]) -> Option<Asked> {
 
 /// Every kind in turn. What a job is depends on the seed and its number alone.
 fn plan_all(asked: &Asked) -> Tally {
-    let (next, tally) =
-        (AtomicUsize::new(0), Mutex::new(Tally { answers: [[[0; 19]; KINDS]; 2], differences: 0 }));
+    let none = Tally { answers: [[[0; 19]; KINDS]; 2], ordered: [0; KINDS], differences: 0 };
+    let (next, tally) = (AtomicUsize::new(0), Mutex::new(none));
     let work = || {
         loop {
             let job = next.fetch_add(1, Ordering::Relaxed);

@@ -3,7 +3,7 @@
 use compare::bits::Bits;
 use compare::planner::{numbers, report};
 use compare::prints::fingerprint;
-use oracle::fills::expected;
+use oracle::expected::expected;
 use oracle::job::Job;
 use oracle::run::Plan;
 use oracle::stored::stored;
@@ -26,7 +26,7 @@ fn slice(numbers: Vec<u64>, lent: usize, long: usize, seven: u64) -> u64 {
 /// The lines of a job with so many numbers lent for rows and triples.
 fn lines(mut job: Job, rows: usize, triples: usize) {
     (job.lent_rows, job.lent_triples) = (rows / 3, triples / 3);
-    let plan = expected(&job, false).answer;
+    let plan = expected(&job, false).outcome.answer;
     let mut words = match &plan {
         Ok(plan) => [&[0][..], &numbers(&report(&plan.report))].concat(),
         Err(n) => vec![*n as u64],

@@ -5,11 +5,11 @@ use oracle::hooks::Event;
 use oracle::job::{self, hex};
 use oracle::run::{self, Outcome};
 use oracle::switches::{self, Switches};
-use oracle::{DERIVED, fills, replay};
+use oracle::{DERIVED, expected, replay};
 use std::path::Path;
 use std::process::ExitCode;
 
-const USAGE: &str = "oracle [--brief] [--trace] [--replay] [--time] [--plain-rim] [--buckets] [--fill-contains] [--higher-first] [--first-wins] JOB...
+const USAGE: &str = "oracle [--brief] [--trace] [--replay] [--time] [--plain-rim] [--buckets] [--fill-contains] [--longer-first] [--higher-first] [--first-wins] [--fewer-first] [--later-first] JOB...
   --brief         no rows or triples
   --trace         the events, before the answer
   --replay        the faults found by replay
@@ -17,10 +17,14 @@ const USAGE: &str = "oracle [--brief] [--trace] [--replay] [--time] [--plain-rim
   --plain-rim     sine and cosine at each sample, as printed (the same bits, slower)
   --buckets       walls by the printed buckets (else every segment, as document 01 asks)
   --fill-contains regions filled by `contains`, the replay's too (else even-odd, as printed)
+  --longer-first  of equally near pieces the one with more points first (else the earlier, as printed)
   --higher-first  wrong on purpose: the higher node number on equal estimates
   --first-wins    wrong on purpose: the first insert wins in the contour's edge map
+  --fewer-first   wrong on purpose, with --longer-first: fewer points first
+  --later-first   wrong on purpose, with --longer-first: on as many points the later
 oracle --fingerprint JOB...
-  one line a job: name, answer, FNV-1a (64 bits) of the whole text; where the two fills disagree on a cell, by `contains`
+  one line a job: name, answer, FNV-1a (64 bits) of the whole text; where the two fills disagree on a cell, by `contains`,
+  and where the two orders part, by --longer-first
 oracle --derived FILE
   a derived source: adaptive.rs, raster.rs, geom.rs, error.rs";
 
@@ -39,8 +43,11 @@ fn main() -> ExitCode {
             "--plain-rim" => how.plain_rim = true,
             "--buckets" => how.buckets = true,
             "--fill-contains" => how.fill_contains = true,
+            "--longer-first" => how.longer_first = true,
             "--higher-first" => how.higher_first = true,
             "--first-wins" => how.first_wins = true,
+            "--fewer-first" => how.fewer_first = true,
+            "--later-first" => how.later_first = true,
             "--derived" => return derived(&words.next().unwrap_or_default()),
             _ if word.starts_with('-') => return fail(USAGE),
             _ => files.push(word),
@@ -58,7 +65,7 @@ fn main() -> ExitCode {
             Err(e) => return fail(&format!("{file}: {e}")),
         };
         if short {
-            let text = run::print(&fills::expected(&job, false), false);
+            let text = run::print(&expected::expected(&job, false).outcome, false);
             let name = Path::new(file).file_stem().unwrap_or_default().display();
             println!("{name} {}", run::fingerprint_line(&text));
             continue;

@@ -10,7 +10,7 @@ use crate::planner::AdaptiveParams;
 use crate::vec2::{Vec2, v2};
 pub use large::large;
 pub use rng::Rng;
-use shapes::{Loop, Shape, add, shape, turn};
+use shapes::{Shape, add, shape, turn};
 use std::f64::consts::{PI, TAU};
 
 /// A seed's kind is one of these in turn.
@@ -43,10 +43,11 @@ pub const KINDS: [&str; 26] = [
     "rotrect",
 ];
 
-/// Only by name. Of `exact` the tracing level is exactly a field value, so that contours meet in a corner; the others are
-/// where the two fills part: islands in islands, islands that overlap or reach over the outer loop, the same in stock,
-/// outer loops and islands that cross themselves.
-pub const NAMED: [&str; 6] = [EXACT, "nested", "bosses", "stockisles", "crossed", "crossisles"];
+/// Only by name. Of `exact` the tracing level is exactly a field value, so that contours meet in a corner. Of `mirrored` two
+/// pieces are equally near when the first is chosen, where the two orders may part. The others are where the two fills part:
+/// islands in islands, islands that overlap or reach over the outer loop, the same in stock, outer loops and islands that cross
+/// themselves.
+pub const NAMED: [&str; 7] = [EXACT, "nested", "bosses", "stockisles", "crossed", "crossisles", "mirrored"];
 
 const EXACT: &str = "exact";
 
@@ -71,7 +72,7 @@ pub fn job(seed: u64, kind: Option<&str>) -> Result<(Job, &'static str), String>
     let mut j = Job::new(p);
     let place = if r.chance(0.3) { Vec2::ZERO } else { v2(r.range(-100.0, 100.0), r.range(-100.0, 100.0)) };
     let mut shape = shape(kind, &mut j, r);
-    if kind != "aligned" && kind != "degenerate" {
+    if !matches!(kind, "aligned" | "degenerate" | "mirrored") {
         move_shape(kind, &mut shape, place, j.params.tool_diameter, r);
     }
     // Either turning sense.
@@ -100,18 +101,14 @@ fn move_shape(kind: &str, shape: &mut Shape, place: Vec2, diameter: f64, r: &mut
             to = corner;
         }
     }
-    let shift = |l: &mut Loop| {
+    shape.each_loop(|l| {
         if turned {
             turn(l, angle);
         }
         for v in l.iter_mut() {
             *v = *v + to;
         }
-    };
-    shape.loops.iter_mut().for_each(shift);
-    if let Some(s) = &mut shape.stock {
-        s.iter_mut().flatten().for_each(shift);
-    }
+    });
 }
 
 /// Sizes on the border of questions 15 to 17.

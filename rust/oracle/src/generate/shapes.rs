@@ -12,6 +12,14 @@ pub struct Shape {
     pub stock: Option<Vec<Vec<Loop>>>,
 }
 
+impl Shape {
+    /// Changes the pocket's loops, then the stock's.
+    pub fn each_loop(&mut self, change: impl FnMut(&mut Loop)) {
+        let stock = self.stock.iter_mut().flatten().flatten();
+        self.loops.iter_mut().chain(stock).for_each(change);
+    }
+}
+
 pub fn rect(x0: f64, y0: f64, x1: f64, y1: f64) -> Loop {
     vec![v2(x0, y0), v2(x1, y0), v2(x1, y1), v2(x0, y1)]
 }
@@ -66,6 +74,55 @@ fn bosses(c: Vec2, size: f64, r: &mut Rng) -> Vec<Loop> {
 /// A place towards a corner of a pocket with these half sides, up to the corner itself: the tool gets past an island there.
 fn cornered(a: f64, b: f64, r: &mut Rng) -> Vec2 {
     v2(a * r.range(0.5, 1.0) * r.pick(&[-1.0, 1.0]), b * r.range(0.5, 1.0) * r.pick(&[-1.0, 1.0]))
+}
+
+/// Two that are drawn, now and then the same one twice.
+fn two<T: Clone>(r: &mut Rng, draw: impl Fn(&mut Rng) -> T) -> [T; 2] {
+    let first = draw(r);
+    let second = if r.chance(0.1) { first.clone() } else { draw(r) };
+    [first, second]
+}
+
+/// Two bars of stock, each along the wall from where its curve begins: turned by half about the origin the one is the other,
+/// but for its length. In cells, for a tool of this radius.
+fn bars(rad: f64, r: &mut Rng) -> Shape {
+    let face = (rad * r.range(1.05, 1.25)).ceil();
+    let (a, b) = ((rad * r.range(1.75, 2.2)).round(), (face + rad * r.range(0.35, 0.7)).round());
+    let [first, second] = two(r, |r| {
+        let end = (a - rad * r.range(1.7, 3.2)).round().max(-a);
+        let slant = (rad * r.range(-0.4, 0.4)).round();
+        vec![v2(a, face), v2(a, b), v2(end + slant, b), v2(end, face)]
+    });
+    let second = second.into_iter().map(|q| v2(-q.x, -q.y)).collect();
+    Shape { loops: vec![rect(-a, -b, a, b)], stock: Some(vec![vec![first], vec![second]]) }
+}
+
+/// Stock with two holes: mirrored about the axis between them the one is the other, but for its length. In cells as well.
+fn holes(rad: f64, r: &mut Rng) -> Shape {
+    let (near, half) = ((rad * r.range(0.15, 0.35)).ceil(), rad.ceil() + 2.0);
+    let [first, second] = two(r, |r| near + (rad * r.range(2.1, 2.8)).ceil());
+    let around = (rad * r.range(0.3, 0.5)).ceil();
+    let (a, b) = (half + around, first.max(second) + around);
+    let outer = rect(-a, -b, a, b);
+    let holes = [rect(-half, near, half, first), rect(-half, -second, half, -near)];
+    Shape { loops: vec![outer.clone()], stock: Some(vec![[&[outer], &holes[..]].concat()]) }
+}
+
+/// Two pieces that are equally near to the origin. Everything is exact in binary, and the rim points are even in number: their
+/// own mirror images.
+fn mirrored(j: &mut Job, r: &mut Rng) -> Shape {
+    let (c, k) = (r.pick(&[0.0625, 0.125, 0.25]), r.pick(&[61.0, 62.0, 63.0]));
+    j.params.tool_diameter = c * k;
+    j.params.resolution = Some(c);
+    j.params.max_engagement_deg = r.range(35.0, 70.0);
+    let mut shape = if r.chance(0.6) { bars(0.5 * k, r) } else { holes(0.5 * k, r) };
+    let turned = r.chance(0.5);
+    shape.each_loop(|l| {
+        for q in l {
+            *q = if turned { v2(-q.y, q.x) } else { *q } * c;
+        }
+    });
+    shape
 }
 
 /// Puts the loops into a job.
@@ -365,6 +422,7 @@ pub fn shape(kind: &str, j: &mut Job, r: &mut Rng) -> Shape {
                 _ => loops.extend(bosses(c, size, r)),
             }
         }
+        "mirrored" => Shape { loops, stock } = mirrored(j, r),
         "exact" if r.chance(0.7) => {
             let n = r.below(30) as usize + 3;
             loops = vec![ring(Vec2::ZERO, a * 1.2, n, r.range(0.0, 1.0))];
