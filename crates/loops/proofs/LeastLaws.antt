@@ -5,7 +5,6 @@ use Prim.Native.Nat.{ℕ, _+_, _<_, _≤_}
 use native.Mathlib.Omega.{arith}
 use lib.Dec.{ltb}
 use borrow.Author.Tests.{ltb-true, ltb-false, le-ltb}
-use Rattle.loops.specs.Loop.{loop}
 use Rattle.loops.specs.Least.{thenBy, leastStep, leastBy}
 use Rattle.loops.proofs.Cases.{by-cases, by-test, never}
 use Rattle.loops.proofs.LoopLaws.{Going, going-none, going-more, going-end, loop-both}

@@ -1,4 +1,4 @@
--- What every layer cites: a counting loop as a fold, the parts of a slice, the cells of a map.
+-- What every layer cites: a counting loop as a fold, the least in an order, the parts of a slice, the cells of a map.
 pub mod Loop
 pub mod Least
 pub mod Regions

@@ -74,7 +74,7 @@ near-some pts pos p e b B = rw e B
 -- ---- which one is found
 
 -- nearer is of lower rank
-pub nearer-rank : (x y : Float) → isNearer x y ≡ ltb (rankOf x) (rankOf y)
+nearer-rank : (x y : Float) → isNearer x y ≡ ltb (rankOf x) (rankOf y)
 unfolding isNearer totalOf isGreater
 nearer-rank x y =
     by-cases (ltb (rankOf y) (rankOf x))

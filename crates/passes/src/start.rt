@@ -18,9 +18,9 @@ pub enum Place {
 }
 
 // A point's number, and how far it is.
-pub struct Near {
-    pub at: usize,
-    pub far: f64,
+struct Near {
+    at: usize,
+    far: f64,
 }
 
 fn greater(o: Ordering) -> bool
