@@ -12,9 +12,9 @@ use Rattle.loops.specs.Loop.{loop}
 use Rattle.loops.proofs.LoopLaws.{loop-none, loop-more, loop-keeps, loop-split}
 use Rattle.loops.proofs.Cases.{by-cases, by-test}
 use Rattle.geom.specs.Vec.{v2}
-use Rattle.geom.specs.Region.{vertexOf, crossingOf, before, turned}
+use Rattle.geom.specs.Region.{edgeAt, vertexOf, crossingOf, before, turned}
 use Rattle.filling.specs.declared.crossings.Pair.{Pair}
-use Rattle.filling.specs.Columns.{Before, crosses, NextCrossing, edgeAt, inRun, turnedIf, Paired, pair, orderedOf}
+use Rattle.filling.specs.Columns.{Before, crosses, NextCrossing, inRun, turnedIf, Paired, pair, orderedOf}
 
 -- ---- no edge from `from` on below i crosses the row
 

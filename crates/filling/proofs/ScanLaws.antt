@@ -12,9 +12,9 @@ use Rattle.loops.specs.Loop.{loop}
 use Rattle.loops.proofs.Cases.{neither}
 use Rattle.loops.proofs.LoopLaws.{loop-split}
 use Rattle.geom.specs.Vec.{v2}
-use Rattle.geom.specs.Region.{pointInLoop}
+use Rattle.geom.specs.Region.{edgeAt, pointInLoop}
 use Rattle.filling.specs.declared.crossings.Pair.{Pair}
-use Rattle.filling.specs.Columns.{crosses, NextCrossing, edgeAt, inRun, turnedIf, Paired, Shows, nowhere, Runs, Turned, Blank, inLoop}
+use Rattle.filling.specs.Columns.{crosses, NextCrossing, inRun, turnedIf, Paired, Shows, nowhere, Runs, Turned, Blank, inLoop}
 use Rattle.filling.proofs.ColumnLaws.{run-none, turned-no}
 use Rattle.filling.proofs.CrossingLaws.{idle-edges}
 

@@ -9,8 +9,7 @@ use lib.Dec.{eqb, leb, ltb}
 use lib.Ieee.{Float, nan, binary64, add, lt}
 use Rattle.loops.specs.Loop.{loop}
 use Rattle.geom.specs.Vec.{v2}
-use Rattle.geom.specs.Region.{vertexOf, straddlesOf, before, turned, pointInLoop, inIsland}
-use Rattle.geom.specs.declared.vec2.Vec2.{Vec2}
+use Rattle.geom.specs.Region.{vertexOf, straddlesOf, before, edgeAt, pointInLoop, inIsland}
 use Rattle.geom.specs.declared.region.Region.{Region}
 use Rattle.raster.specs.Grid.{offset}
 use Rattle.raster.specs.declared.grid.Grid.{Grid}
@@ -55,10 +54,6 @@ pub record NextCrossing (vs : List Float) (at n : ℕ) (y : Float) (from e : ℕ
   pub high : e ≤ n
   pub idle : (i : ℕ) → from ≤ i → i < e → crosses vs at n y i ≡ false
   pub cross : e < n → crosses vs at n y e ≡ true
-
--- edge i as it turns the answer of a point
-abbrev pub edgeAt : List Float → ℕ → ℕ → Vec2 → ℕ → Bool → Bool
-edgeAt vs at n p i s = turned p (vertexOf vs (at + i)) (vertexOf vs (at + before n i)) s
 
 -- columns from a on below b
 unfoldable pub inRun : ℕ → ℕ → ℕ → Bool

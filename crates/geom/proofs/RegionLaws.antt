@@ -9,17 +9,10 @@ use lib.Ieee.{Float}
 use borrow.Author.Tests.{ne-eqb}
 use Rattle.loops.specs.Loop.{loop}
 use Rattle.loops.proofs.LoopLaws.{loop-none, loop-more, loop-keeps, loop-split}
-use Rattle.geom.specs.Region.{vertexOf, before, turned, pointInLoop, widened, sizeOf, startOf, Held, insideLoop, inIsland, containsOf, loopBounds, boundsOf}
+use Rattle.geom.specs.Region.{vertexOf, before, pointInLoop, sizeOf, startOf, Held, insideLoop, inIsland, containsOf, loopBounds, boundsOf}
 use Rattle.geom.specs.declared.vec2.Vec2.{Vec2}
 use Rattle.geom.specs.declared.region.Corners.{Corners}
 use Rattle.geom.specs.declared.region.Region.{Region}
-
--- a turn of `pointInLoop`, and one of `loopBounds`
-unfoldable pub edge : List Float → ℕ → ℕ → Vec2 → ℕ → Bool → Bool
-edge vs at n p i s = turned p (vertexOf vs (at + i)) (vertexOf vs (at + before n i)) s
-
-unfoldable pub reached : List Float → ℕ → ℕ → Corners → Corners
-reached vs at i c = widened (vertexOf vs (at + i)) c
 
 pub none-inside : (vs : List Float) (at n : ℕ) (p : Vec2) → n ≡ 0 → false ≡ pointInLoop vs at n p
 unfolding pointInLoop

@@ -35,8 +35,12 @@ after n i = cond (eqb (i + 1) n) 0 (i + 1)
 unfoldable pub turned : Vec2 → Vec2 → Vec2 → Bool → Bool
 turned p a b s = cond (straddlesOf a b (p .y)) (cond (lt (p .x) (crossingOf a b (p .y))) (not s) s) s
 
+-- edge i of a loop, from vertex i to the one before it
+abbrev pub edgeAt : List Float → ℕ → ℕ → Vec2 → ℕ → Bool → Bool
+edgeAt vs at n p i s = turned p (vertexOf vs (at + i)) (vertexOf vs (at + before n i)) s
+
 unfoldable pub pointInLoop : List Float → ℕ → ℕ → Vec2 → Bool
-pointInLoop vs at n p = loop (λ i s. turned p (vertexOf vs (at + i)) (vertexOf vs (at + before n i)) s) 0 n false
+pointInLoop vs at n p = loop (edgeAt vs at n p) 0 n false
 
 -- ---- a region: loop l has `sizeOf` vertices from `startOf` on; loop 0 is the outer one, the others are islands
 
@@ -69,8 +73,12 @@ corners lo hi = record { lo = lo; hi = hi }
 unfoldable pub widened : Vec2 → Corners → Corners
 widened p c = corners (v2 (minOf (c .lo .x) (p .x)) (minOf (c .lo .y) (p .y))) (v2 (maxOf (c .hi .x) (p .x)) (maxOf (c .hi .y) (p .y)))
 
+-- to vertex i of a loop
+abbrev pub widenedAt : List Float → ℕ → ℕ → Corners → Corners
+widenedAt vs at i c = widened (vertexOf vs (at + i)) c
+
 unfoldable pub loopBounds : List Float → ℕ → ℕ → Corners
-loopBounds vs at n = loop (λ i c. widened (vertexOf vs (at + i)) c) 0 n (corners (v2 (inf false) (inf false)) (v2 (inf true) (inf true)))
+loopBounds vs at n = loop (widenedAt vs at) 0 n (corners (v2 (inf false) (inf false)) (v2 (inf true) (inf true)))
 
 unfoldable pub boundsOf : List Float → List ℕ → Region → Corners
 boundsOf vs lens g = loopBounds vs (startOf lens g 0) (sizeOf lens g 0)

@@ -5,13 +5,12 @@ use native.Mathlib.Omega.{arith}
 use lib.Ieee.{ofBits, nanBits, neg}
 use borrow.Author.Needs.{needs}
 use Rattle.loops.proofs.LoopLaws.{Going, going-none, going-more, going-end}
-use Rattle.geom.specs.Region.{loopBounds}
-use Rattle.geom.proofs.RegionLaws.{reached}
+use Rattle.geom.specs.Region.{widenedAt, loopBounds}
 use Rattle.geom.proofs.region.loop_bounds.Statement.{statement}
 use Rattle.geom.proofs.region.loop_bounds.Tie as tie
 
 abbrev Inv-loop : tie.InvT-loop
-Inv-loop vs at n top c₀ i₀ c i = Going (reached vs at) 0 n c₀ c i
+Inv-loop vs at n top c₀ i₀ c i = Going (widenedAt vs at) 0 n c₀ c i
 
 abbrev μ-loop : tie.MeasureT-loop
 μ-loop vs at n top c₀ i₀ c i = n - i
@@ -39,11 +38,10 @@ loop-less : tie.Need-loop-less Inv-loop μ-loop
 loop-less c = omega arith
 
 loop-again : tie.Need-loop-again Inv-loop μ-loop
-unfolding reached
 loop-again c = going-more _ _ _ _ _ _ _ (c .before .before .before .loop .inv) (c .before .before .loop-test .taken) (c .widen .ensures ∙ rw (c .before .vertex .ensures))
 
 returns : tie.Need-returns Inv-loop μ-loop
-unfolding loopBounds reached ofBits neg
+unfolding loopBounds ofBits neg
 returns c = going-end _ _ _ _ _ _ (c .before .loop .inv) (c .loop-test .left)
 
 pub loop-bounds-spec : {M : Type 1} → statement M

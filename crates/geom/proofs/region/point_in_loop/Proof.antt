@@ -5,13 +5,13 @@ use Prim.Native.Nat.{_+_, _-_}
 use native.Mathlib.Omega.{arith}
 use borrow.Author.Needs.{needs}
 use Rattle.loops.proofs.LoopLaws.{Going, going-none, going-more, going-end}
-use Rattle.geom.specs.Region.{vertexOf, before, pointInLoop}
-use Rattle.geom.proofs.RegionLaws.{edge, before-first, before-next, none-inside}
+use Rattle.geom.specs.Region.{vertexOf, before, edgeAt, pointInLoop}
+use Rattle.geom.proofs.RegionLaws.{before-first, before-next, none-inside}
 use Rattle.geom.proofs.region.point_in_loop.Statement.{statement}
 use Rattle.geom.proofs.region.point_in_loop.Tie as tie
 
 abbrev Inv-loop : tie.InvT-loop
-Inv-loop vs at n p inside₀ b₀ i₀ inside b i = Going (edge vs at n p) 0 n false inside i × (b ≡ vertexOf vs (at + before n i))
+Inv-loop vs at n p inside₀ b₀ i₀ inside b i = Going (edgeAt vs at n p) 0 n false inside i × (b ≡ vertexOf vs (at + before n i))
 
 abbrev μ-loop : tie.MeasureT-loop
 μ-loop vs at n p inside₀ b₀ i₀ inside b i = n - i
@@ -47,13 +47,12 @@ loop-less : tie.Need-loop-less Inv-loop μ-loop
 loop-less c = omega arith
 
 loop-again : tie.Need-loop-again Inv-loop μ-loop
-unfolding edge
 loop-again c =
     let l = c .before .before .before .loop in
     (going-more _ _ _ _ _ _ _ (l .inv .0) (c .before .before .loop-test .taken) (c .turn .ensures ∙ rw (c .before .vertex2 .ensures, l .inv .1)), c .before .vertex2 .ensures ∙ before-next _ _ _ _)
 
 returns-2 : tie.Need-returns-2 Inv-loop μ-loop
-unfolding pointInLoop edge
+unfolding pointInLoop
 returns-2 c = going-end _ _ _ _ _ _ (c .before .loop .inv .0) (c .loop-test .left)
 
 pub point-in-loop-spec : {M : Type 1} → statement M
