@@ -59,7 +59,7 @@ module _ (s : Setup) (g : Grid) (region : Region) (r wide keep target guard : Fl
   cut-fitted vs lens bytes w f = subst (λ (z : Setup). Fitted z vs lens (run 0 (cellsOf z) bytes) w) (sym e) record {
     walls = record { over = f .walls .over; held = f .walls .held; bound = b };
     over = f .over;
-    rim = f .rim;
+    tables = f .tables;
     long = f .long;
   }
 

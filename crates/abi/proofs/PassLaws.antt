@@ -10,9 +10,9 @@ use Rattle.numbers.specs.Bound.{Bounds}
 use Rattle.numbers.specs.declared.bound.Bound.the-variants.{Untold}
 use Rattle.geom.specs.Points.{points}
 use Rattle.geom.specs.declared.region.Region.{Region}
-use Rattle.raster.specs.Contact.{samplesOf, Rim}
 use Rattle.raster.specs.declared.grid.Grid.{Grid}
 use Rattle.setup.specs.Place.{Walls, allowedAt}
+use Rattle.setup.specs.Tables.{Tables}
 use Rattle.setup.specs.declared.Setup.{Setup}
 use Rattle.passes.specs.Simulate.{ps, simulateOf, Usable}
 use Rattle.passes.specs.declared.trial.Trial.{Trial}
@@ -37,8 +37,8 @@ module _ (s : Setup) (g : Grid) (region : Region) (r wide keep target guard : Fl
   pub pass-walls : (wall vs : List Float) (lens : List ℕ) → Walls plain wall vs lens → Walls s wall vs lens
   pass-walls wall vs lens f = subst (λ (z : Setup). Walls z wall vs lens) (sym e) record { over = f .over; held = f .held; bound = b }
 
-  pub pass-rim : (rim : List Float) → Rim (samplesOf samples) rim → Rim (samplesOf (s .samples)) rim
-  pass-rim rim h = subst (λ (z : Setup). Rim (samplesOf (z .samples)) rim) (sym e) h
+  pub pass-tables : (w : List Float) → Tables plain w → Tables s w
+  pass-tables w h = subst (λ (z : Setup). Tables z w) (sym e) h
 
   pub pass-usable : (m l : List ℕ) (guide : List Float) → Usable plain m l guide → Usable s m l guide
   pass-usable m l guide f = subst (λ (z : Setup). Usable z m l guide) (sym e) record { over = f .over; ready = f .ready; point = f .point }

@@ -33,7 +33,7 @@ module _ (s : Setup) (g : Grid) (region : Region) (r keep : Float) (samples : â„
   fitted-of vs lens m w f = subst (Î» (z : Setup). Fitted z vs lens m w) (sym e) record {
     walls = record { over = f .walls .over; held = f .walls .held; bound = b };
     over = f .over;
-    rim = f .rim;
+    tables = f .tables;
     long = f .long;
   }
 

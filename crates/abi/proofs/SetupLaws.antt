@@ -11,6 +11,7 @@ use Rattle.geom.specs.declared.region.Region.{Region}
 use Rattle.raster.specs.Grid.{Over}
 use Rattle.raster.specs.declared.grid.Grid.{Grid}
 use Rattle.setup.specs.Place.{Walls, allowedAt, contactAt}
+use Rattle.setup.specs.Tables.{Tables}
 use Rattle.setup.specs.declared.Setup.{Setup}
 use Rattle.links.specs.Straight.{clearAt, sampleClear, samplesClear, linkClear}
 use Rattle.abi.specs.Setup.{placed, plain}
@@ -29,8 +30,8 @@ module _ (s : Setup) (g : Grid) (region : Region) (r keep : Float) (samples : �
   pub over-grid : (n : ℕ) → Over g n → Over (s .grid) n
   over-grid n o = subst (λ (z : Grid). Over z n) (sym (ap (λ (z : Setup). z .grid) e)) o
 
-  pub same-samples : s .samples ≡ samples
-  same-samples = ap (λ (z : Setup). z .samples) e
+  pub tables-made : (w : List Float) → Tables (plain g region r keep samples) w → Tables s w
+  tables-made w h = subst (λ (z : Setup). Tables z w) (sym e) h
 
   pub allowed-plain : (wall vs : List Float) (lens : List ℕ) (p : Vec2) → allowedAt s wall vs lens p ≡ allowedAt (plain g region r keep samples) wall vs lens p
   unfolding allowedAt

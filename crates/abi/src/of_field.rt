@@ -8,7 +8,7 @@ use numbers::bound::Bound;
 use raster::grid::Grid;
 use setup::Setup;
 
-// The field of a round in a workspace whose squares and rim are filled; how many cells were sampled.
+// The field of a round in a workspace whose tables are filled; how many cells were sampled.
 #[no_mangle]
 pub extern "C" fn field_round(
     ox: f64,

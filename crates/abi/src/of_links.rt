@@ -64,7 +64,7 @@ fn put_route(r: Route, out: &mut [u64]) -> bool
 }
 
 // Whether there is a way from a to b; its points are in the workspace, `out` gets how many and the work of
-// the search. The workspace has its walls and the rim's directions.
+// the search. The workspace has its walls and the tool's tables.
 #[no_mangle]
 pub extern "C" fn links_link_path(
     ox: f64,

@@ -5,8 +5,8 @@ ghost use Prim.Native.Nat.{_≤_};
 ghost use lib.ListN.{length};
 ghost use Rattle.numbers.specs.Bound.{Bounds};
 ghost use Rattle.numbers.specs.declared.bound.Bound.the-variants.{Untold};
-ghost use Rattle.raster.specs.Contact.{samplesOf, Rim};
 ghost use Rattle.setup.specs.Place.{Walls};
+ghost use Rattle.setup.specs.Tables.{Tables};
 ghost use Rattle.passes.specs.Simulate.{Usable};
 ghost use Rattle.abi.specs.Geom.{region};
 ghost use Rattle.abi.specs.Raster.{grid};
@@ -73,7 +73,7 @@ pub extern "C" fn passes_simulate(
     out: &mut [u64],
 ) -> bool
     requires { ⌜ Walls (passing (grid ox oy cell nx ny) (region at first loops) r wide keep target guard samples true Untold) (now wall) (now vs) (now lens) ⌝ }
-    requires { ⌜ Rim (samplesOf samples) (now rim) ⌝ }
+    requires { ⌜ Tables (passing (grid ox oy cell nx ny) (region at first loops) r wide keep target guard samples true Untold) (now rim) ⌝ }
     requires { ⌜ Usable (passing (grid ox oy cell nx ny) (region at first loops) r wide keep target guard samples true Untold) (now map) (now log) (now guide) ⌝ }
     requires { ⌜ 3 ≤ length (now out) ⌝ }
     ensures { λ t. ⌜ PassBy (grid ox oy cell nx ny) (region at first loops) r wide keep target guard samples (now (wall .entry)) (now (vs .entry)) (now (lens .entry)) (now (guide .entry)) kept (now (map .entry)) (now (log .entry)) (now (triples .entry)) (now (map .exit)) (now (log .exit)) (now (triples .exit)) t (now (out .exit)) ⌝ }

@@ -9,7 +9,7 @@ ghost use Rattle.raster.specs.Grid.{Over, newGrid, centerOf, cellOf, stockAt};
 ghost use Rattle.raster.specs.Disk.{diskRow};
 ghost use Rattle.raster.specs.Stock.{cl, clearDisk, countDisk, intersection};
 ghost use Rattle.raster.specs.Log.{st, Ready, Logged, clearAfter, undone, redone};
-ghost use Rattle.raster.specs.Contact.{samplesOf, rimContact, angleOf, Rim, rimmed};
+ghost use Rattle.raster.specs.Contact.{samplesOf, rimContact, angleOf};
 ghost use Rattle.filling.specs.Fill.{fillRegion};
 ghost use Rattle.geom.specs.Region.{Held};
 ghost use Rattle.abi.specs.Geom.{region, put2};
@@ -306,15 +306,6 @@ pub extern "C" fn raster_clear_again(map: &mut [u8], log: &[u32], count: usize)
     ensures { λ _. ⌜ now (map .exit) ≡ redone (now (log .entry)) 0 count (now (map .entry)) ⌝ }
 {
     raster::log::clear_again(map, log, count);
-}
-
-// Fills the table of n directions.
-#[no_mangle]
-pub extern "C" fn raster_fill_rim(rim: &mut [f64], n: usize)
-    requires { ⌜ 2 * n ≤ length (now rim) ⌝ }
-    ensures { λ _. ⌜ (now (rim .exit) ≡ rimmed n (now (rim .entry))) × Rim n (now (rim .exit)) ⌝ }
-{
-    raster::contact::fill_rim(rim, n);
 }
 
 // The angle of a contact. The table of directions is filled first.

@@ -1,21 +1,23 @@
 // The functions of `setup` and the straight link. The Setup is made of its numbers; what the tests of a
 // place do not read is 0.
 ghost use mathlib.Core.Path.{_≡_};
-ghost use Prim.Native.Nat.{_*_, _≤_};
+ghost use Prim.Native.Nat.{_≤_};
 ghost use lib.ListN.{length};
 ghost use Rattle.geom.specs.Vec.{v2};
 ghost use Rattle.geom.specs.Region.{Held};
-ghost use Rattle.raster.specs.Grid.{Over};
+ghost use Rattle.raster.specs.Grid.{Sides, Over};
 ghost use Rattle.raster.specs.Contact.{samplesOf};
 ghost use Rattle.numbers.specs.Bound.{Bounds};
 ghost use Rattle.setup.specs.Limits as Limits;
 ghost use Rattle.setup.specs.Place.{allowedAt};
+ghost use Rattle.setup.specs.Tables.{ToolTables, Tables};
 ghost use Rattle.links.specs.Straight.{linkClear};
 ghost use Rattle.abi.specs.Geom.{region};
 ghost use Rattle.abi.specs.Raster.{grid};
 ghost use Rattle.abi.specs.Setup.{placed, plain};
 use geom::region::Region;
 use geom::vec2::Vec2;
+use numbers::bound::Bound;
 use raster::grid::Grid;
 use setup::Setup;
 
@@ -90,7 +92,51 @@ pub extern "C" fn setup_allowed_at(
     setup::place::allowed_at(s, wall, vs, lens, Vec2 { x, y })
 }
 
-// The table of directions is filled first.
+// The tool's tables of a workspace.
+#[no_mangle]
+pub extern "C" fn setup_fill_tables(
+    ox: f64,
+    oy: f64,
+    cell: f64,
+    nx: usize,
+    ny: usize,
+    r: f64,
+    wide: f64,
+    samples: usize,
+    w: &mut [f64],
+)
+    requires { ⌜ Sides (grid ox oy cell nx ny) ⌝ }
+    requires { ⌜ samples ≤ 2048 ⌝ }
+    requires { ⌜ 8192 ≤ length (now w) ⌝ }
+    ensures { λ _. ⌜ ToolTables (grid ox oy cell nx ny) r wide (samplesOf samples) (now (w .exit)) ⌝ }
+{
+    let origin = Vec2 { x: ox, y: oy };
+    let g = Grid {
+        origin,
+        cell,
+        nx,
+        ny,
+    };
+    let region = Region {
+        at: 0,
+        first: 0,
+        loops: 0,
+    };
+    let s = Setup {
+        grid: g,
+        region,
+        r,
+        r_guard: wide,
+        keep: 0.0,
+        bound: Bound::Untold,
+        target: 0.0,
+        guard: 0.0,
+        samples,
+        keep_down: true,
+    };
+    setup::tables::fill(s, w);
+}
+
 #[no_mangle]
 pub extern "C" fn links_link_clear(
     ox: f64,
@@ -108,7 +154,7 @@ pub extern "C" fn links_link_clear(
     keep: f64,
     samples: usize,
     map: &[u8],
-    rim: &mut [f64],
+    tables: &[f64],
     ax: f64,
     ay: f64,
     bx: f64,
@@ -117,7 +163,7 @@ pub extern "C" fn links_link_clear(
     requires { ⌜ Over (grid ox oy cell nx ny) (length (now wall)) ⌝ }
     requires { ⌜ Held (now vs) (now lens) (region at first loops) ⌝ }
     requires { ⌜ Over (grid ox oy cell nx ny) (length (now map)) ⌝ }
-    requires { ⌜ 2 * samplesOf samples ≤ length (now rim) ⌝ }
+    requires { ⌜ Tables (plain (grid ox oy cell nx ny) (region at first loops) r keep samples) (now tables) ⌝ }
     ensures { λ b. ⌜ b ≡ linkClear (plain (grid ox oy cell nx ny) (region at first loops) r keep samples) (now (wall .entry)) (now (vs .entry)) (now (lens .entry)) (now (map .entry)) (v2 ax ay) (v2 bx by) ⌝ }
 {
     let origin = Vec2 { x: ox, y: oy };
@@ -128,7 +174,6 @@ pub extern "C" fn links_link_clear(
         ny,
     };
     let s = made(g, Region { at, first, loops }, r, keep, samples);
-    raster::contact::fill_rim(rim, raster::contact::samples_of(samples));
     let a = Vec2 { x: ax, y: ay };
-    links::straight::link_clear(s, wall, vs, lens, map, rim, a, Vec2 { x: bx, y: by })
+    links::straight::link_clear(s, wall, vs, lens, map, tables, a, Vec2 { x: bx, y: by })
 }

@@ -53,11 +53,11 @@ module _ (s : Setup) (all : Bool) (map allowed stock near : List ℕ) (L : ℕ) 
       let q = subst (Swept L (j * s .grid .nx + k)) e z in
       record { long = q .long; few = omega (arith, q .few, add-mul j 1 (s .grid .nx)) }
 
-  -- the rows before row k
-  pub rows-run : (k : ℕ) (t : Sensed) → 0 < s .grid .nx → 1 ≤ k → Swept L 0 t → Swept L (k * s .grid .nx) (loop (fieldRow s all map allowed stock near) 1 k t)
-  rows-run k t a b h =
-      loop-both (fieldRow s all map allowed stock near) (fieldRow s all map allowed stock near) (λ j u v. Swept L (j * s .grid .nx) u) 1 k b
-      (λ j u v c d q. row-swept j u a q) t t (record { long = h .long; few = omega (arith, h .few) })
+  -- the rows from row a on, before row k
+  pub rows-run : (a k : ℕ) (t : Sensed) → 0 < s .grid .nx → a ≤ k → Swept L 0 t → Swept L (k * s .grid .nx) (loop (fieldRow s all map allowed stock near) a k t)
+  rows-run a k t w b h =
+      loop-both (fieldRow s all map allowed stock near) (fieldRow s all map allowed stock near) (λ j u v. Swept L (j * s .grid .nx) u) a k b
+      (λ j u v c d q. row-swept j u w q) t t (record { long = h .long; few = omega (arith, h .few) })
 
   pub rows-long : (t : Sensed) → length (t .field) ≡ L → length (fieldRows s all map allowed stock near t .field) ≡ L
   unfolding fieldRows fieldRow

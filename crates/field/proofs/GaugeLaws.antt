@@ -9,7 +9,6 @@ use lib.Ieee.{Float, binary64, add, mul, div, lt}
 use Rattle.loops.specs.Cells.{number}
 use Rattle.numbers.specs.Narrow.{narrowOf}
 use Rattle.numbers.specs.Small.{f2}
-use Rattle.geom.specs.declared.vec2.Vec2.{Vec2}
 use Rattle.distance.specs.Limits.{scaledOf, passesOf}
 use Rattle.distance.specs.Rooted.{rootedOf}
 use Rattle.distance.specs.declared.limits.Threshold.{Threshold}
@@ -75,9 +74,9 @@ module _ (g : Gauge) (h : Gauged g) (map stock : List ℕ) (i j : ℕ) (b : Bool
     unfolding valueAt valueOf
     value-deep d = rw (← is-far, e, ← is-deep, d, h .full) refl
 
-    pub value-sampled : c ≡ false → (p : Vec2) (t : Contact) (a v : Float) → p ≡ centerOf (g .setup .grid) i j → t ≡ contactAt (g .setup) map p (g .setup .r) → a ≡ angleOf t → v ≡ narrowOf a → value v true ≡ valueAt (g .setup) map stock i j
+    pub value-sampled : c ≡ false → (t : Contact) (a v : Float) → t ≡ contactAt (g .setup) map (centerOf (g .setup .grid) i j) (g .setup .r) → a ≡ angleOf t → v ≡ narrowOf a → value v true ≡ valueAt (g .setup) map stock i j
     unfolding valueAt valueOf
-    value-sampled d p t a v P T A E = rw (← is-far, e, ← is-deep, d, ← P, ← T, ← A, ← E) refl
+    value-sampled d t a v T A E = rw (← is-far, e, ← is-deep, d, ← T, ← A, ← E) refl
 
 -- ---- the cell
 

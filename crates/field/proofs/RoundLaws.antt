@@ -1,6 +1,6 @@
 -- Parts of the workspace that are lent and come back, and the field of a round from its steps. Assumes nothing.
 use mathlib.Core.Path.{_≡_, refl, sym, ap, _∙_, subst}
-use mathlib.Core.Bool.{Bool, true, false}
+use mathlib.Core.Bool.{Bool, true, cond}
 use mathlib.Core.List.{List}
 use Prim.Native.Nat.{ℕ, _+_, _-_, _*_, _≤_, _<_}
 use native.Mathlib.Omega.{arith}
@@ -13,16 +13,13 @@ use borrow.Author.Tests.{eqb-true, eqb-false, ltb-true, ltb-false}
 use borrow.Rule.Slice.PartMut.{putMid}
 use Rattle.loops.proofs.LoopLaws.{loop-both}
 use Rattle.loops.specs.Loop.{loop}
-use Rattle.loops.specs.Regions.{within, put}
 use Rattle.loops.proofs.Cases.{by-cases}
-use Rattle.loops.proofs.RegionLaws.{put-is}
-use Rattle.distance.specs.Nearest.{listed, transformOf}
+use Rattle.distance.specs.Nearest.{listed}
 use Rattle.distance.proofs.NearestLaws.{listed-long, listed-at}
 use Rattle.raster.specs.Grid.{Sides}
 use Rattle.raster.specs.declared.grid.Grid.{Grid}
 use Rattle.setup.specs.Layout.{putRun}
 use Rattle.setup.proofs.PartLaws.{part-long, back-is}
-use Rattle.field.specs.Round.{squaresPut, nearPut, Begun}
 
 -- ---- a loop that writes each place
 
@@ -66,36 +63,16 @@ module _ (g : Grid) (h : Sides g) where
   wide-cells = omega (arith, mul-le-mul-right (g .nx) (h .high))
 
   module _ (n : ℕ) (N : n ≡ g .ny * g .nx) where
-    pub squares-is : (a c : ℕ) (b u t : List ℕ) → c + (g .ny * g .nx + 3 * g .nx) ≤ length u
-        → t ≡ transformOf 1 (take (a + n - a) (drop a b)) (g .nx) (g .ny) (take (c + (n + 3 * g .nx) - c) (drop c u))
-        → putMid c (c + (n + 3 * g .nx) - c) u t ≡ squaresPut g a c b u
-    unfolding squaresPut within
-    squares-is a c b u t l T =
-        let k = 3 * g .nx in
-        put-is c (c + (n + k)) u (record { start = omega arith; end = omega arith }) t t refl
-        ∙ ap (λ (q : List ℕ). put c (c + (n + k)) q u) T
-        ∙ ap (λ (z : ℕ). put c (c + (z + k)) (transformOf 1 (take (a + z - a) (drop a b)) (g .nx) (g .ny) (take (c + (z + k) - c) (drop c u))) u) N
-
-    pub near-is : (a c : ℕ) (b u v : List ℕ) → a ≡ 4 * n → c ≡ 1 * n → v ≡ squaresPut g a c b u → v ≡ nearPut g b u
-    unfolding nearPut
-    near-is a c b u v A C e =
-        e ∙ ap (λ (z : ℕ). squaresPut g z c b u) (A ∙ ap (λ (z : ℕ). 4 * z) N) ∙ ap (λ (z : ℕ). squaresPut g (4 * (g .ny * g .nx)) z b u) (C ∙ ap (λ (z : ℕ). 1 * z) N)
-
-    pub begun-all : (all : Bool) (b u : List ℕ) (f t : List Float) → all ≡ true → g .ny * g .nx ≤ length f → t ≡ replicate (length (take (n - 0) (drop 0 f))) nan → Begun g all b u f u (putMid 0 (n - 0) f t)
-    begun-all all b u f t e l T = record {
-      words = rw e refl;
-      singles =
-          back-is 0 n 0 n f t (omega arith) (omega arith) (omega arith)
-          ∙ ap (λ (q : List Float). putRun 0 n q f) (T ∙ ap (λ (k : ℕ). replicate k nan) (part-long 0 n 0 n f (omega arith) (omega arith) (omega arith)))
-          ∙ ap (λ (k : ℕ). putRun 0 k (replicate k nan) f) N
-          ∙ rw e refl;
-    }
+    pub begun-all : (all : Bool) (f t : List Float) → all ≡ true → g .ny * g .nx ≤ length f → t ≡ replicate (length (take (n - 0) (drop 0 f))) nan
+        → putMid 0 (n - 0) f t ≡ cond all (putRun 0 (g .ny * g .nx) (replicate (g .ny * g .nx) nan) f) f
+    begun-all all f t e l T =
+        back-is 0 n 0 n f t (omega arith) (omega arith) (omega arith)
+        ∙ ap (λ (q : List Float). putRun 0 n q f) (T ∙ ap (λ (k : ℕ). replicate k nan) (part-long 0 n 0 n f (omega arith) (omega arith) (omega arith)))
+        ∙ ap (λ (k : ℕ). putRun 0 k (replicate k nan) f) N
+        ∙ rw e refl
 
     pub dirty-is : (a : ℕ) (b t : List ℕ) → a ≡ 4 * n → 5 * (g .ny * g .nx) ≤ length b → t ≡ replicate (length (take (a + n - a) (drop a b))) 0 → putMid a (a + n - a) b t ≡ putRun 4 (g .ny * g .nx) (replicate (g .ny * g .nx) 0) b
     dirty-is a b t A l T =
         back-is 4 n a (a + n) b t A refl (omega arith)
         ∙ ap (λ (q : List ℕ). putRun 4 n q b) (T ∙ ap (λ (k : ℕ). replicate k 0) (part-long 4 n a (a + n) b A refl (omega arith)))
         ∙ ap (λ (k : ℕ). putRun 4 k (replicate k 0) b) N
-
-pub begun-near : (g : Grid) (all : Bool) (b u : List ℕ) (f : List Float) (v : List ℕ) → all ≡ false → v ≡ nearPut g b u → Begun g all b u f v f
-begun-near g all b u f v e d = record { words = d ∙ rw e refl; singles = rw e refl }

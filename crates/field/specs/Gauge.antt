@@ -7,7 +7,7 @@ use lib.Ieee.{Float}
 use Rattle.numbers.specs.Narrow.{narrowOf}
 use Rattle.distance.specs.Limits.{LimitOf}
 use Rattle.distance.specs.declared.limits.Threshold.{Threshold}
-use Rattle.raster.specs.Contact.{samplesOf, Rim}
+use Rattle.setup.specs.Tables.{Tables}
 use Rattle.numbers.specs.Circle.{tau}
 use Rattle.setup.specs.declared.Setup.{Setup}
 use Rattle.field.specs.declared.gauge.Test.{Test}
@@ -30,11 +30,11 @@ pub record Gauged (g : Gauge) : Type 0 where
   pub near : TestOf (bound false (g .setup .grid .cell) false (reachOf (g .setup))) (g .near)
   pub full : g .full ≡ narrowOf tau
 
--- the cells' slices are lent, and the rim's directions
+-- the cells' slices are lent, and the tool's tables
 pub record Sensing (s : Setup) (map allowed stock near : List ℕ) (rim : List Float) (n : ℕ) : Type 0 where
   pub over : Over (s .grid) (length map)
   pub allowed-long : s .grid .ny * s .grid .nx ≤ length allowed
   pub stock-long : s .grid .ny * s .grid .nx ≤ length stock
   pub near-long : s .grid .ny * s .grid .nx ≤ length near
   pub field-long : s .grid .ny * s .grid .nx ≤ n
-  pub table : Rim (samplesOf (s .samples)) rim
+  pub tables : Tables s rim

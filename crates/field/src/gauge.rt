@@ -3,8 +3,9 @@
 ghost use mathlib.Core.Path.{_≡_};
 ghost use Prim.Native.Nat.{_*_, _≤_, _<_};
 ghost use lib.ListN.{length};
-ghost use Rattle.raster.specs.Grid.{Over};
-ghost use Rattle.raster.specs.Contact.{samplesOf, Rim};
+ghost use Rattle.raster.specs.Grid.{Over, centerOf};
+ghost use Rattle.setup.specs.Place.{contactAt};
+ghost use Rattle.setup.specs.Tables.{Tables};
 ghost use Rattle.field.specs.Field.{lowOf, valueAt, wantedAt};
 ghost use Rattle.field.specs.Gauge.{TestOf, Gauged};
 use distance::limits::Limit;
@@ -13,6 +14,9 @@ use distance::limits::beyond;
 use distance::limits::is_within;
 use distance::limits::limit_of;
 use numbers::circle::TAU;
+use raster::contact::Contact;
+use raster::contact::samples_of;
+use rims::hits::centre_hits;
 use setup::Setup;
 
 // A bound of distances, and the limit of their squares.
@@ -101,11 +105,24 @@ pub fn wanted(g: Gauge, allowed: &[u8], near: &[u32], k: usize) -> bool
     false
 }
 
+// Contact of the tool at the centre of cell (i, j).
+fn contact_at(s: Setup, map: &[u8], rim: &[f64], i: usize, j: usize) -> Contact
+    requires { ⌜ Over (s .grid) (length (now map)) ⌝ }
+    requires { ⌜ Tables s (now rim) ⌝ }
+    ensures { λ t. ⌜ t ≡ contactAt s (now (map .entry)) (centerOf (s .grid) i j) (s .r) ⌝ }
+{
+    let n = samples_of(s.samples);
+    Contact {
+        hits: centre_hits(s.grid, map, s.r, rim, n, i, j),
+        samples: n,
+    }
+}
+
 pub fn value_at(g: Gauge, map: &[u8], stock: &[u32], rim: &[f64], i: usize, j: usize) -> Value
     requires { ⌜ Gauged g ⌝ }
     requires { ⌜ Over (g .setup .grid) (length (now map)) ⌝ }
     requires { ⌜ g .setup .grid .ny * g .setup .grid .nx ≤ length (now stock) ⌝ }
-    requires { ⌜ Rim (samplesOf (g .setup .samples)) (now rim) ⌝ }
+    requires { ⌜ Tables (g .setup) (now rim) ⌝ }
     requires { ⌜ (i < g .setup .grid .nx) × (j < g .setup .grid .ny) ⌝ }
     ensures { λ v. ⌜ v ≡ valueAt (g .setup) (now (map .entry)) (now (stock .entry)) i j ⌝ }
 {
@@ -127,7 +144,7 @@ pub fn value_at(g: Gauge, map: &[u8], stock: &[u32], rim: &[f64], i: usize, j: u
             sampled: false,
         };
     }
-    let t = setup::place::contact(s, map, rim, raster::grid::center(grid, i, j), s.r);
+    let t = contact_at(s, map, rim, i, j);
     Value {
         v: numbers::narrow::narrow(raster::contact::angle_of(t)),
         sampled: true,

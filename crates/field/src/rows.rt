@@ -3,8 +3,12 @@ ghost use mathlib.Core.Path.{_≡_};
 ghost use Prim.Native.Nat.{_+_, _*_, _≤_, _<_};
 ghost use lib.ListN.{length};
 ghost use Rattle.loops.specs.Cells.{number};
-ghost use Rattle.field.specs.Field.{sensed, fieldCell, fieldRow, fieldRows};
+ghost use Rattle.field.specs.Bands.{bandRows};
+ghost use Rattle.field.specs.Field.{sensed, fieldCell, fieldRow};
 ghost use Rattle.field.specs.Gauge.{Gauged, Sensing};
+use super::band::Band;
+use super::band::greater;
+use super::band::lesser;
 use super::gauge::Gauge;
 use super::gauge::value_at;
 use super::gauge::wanted;
@@ -64,9 +68,10 @@ fn field_row(
     n
 }
 
-// Works out the rows; how many cells were sampled.
+// Works out the rows of a band; how many cells were sampled.
 pub fn field_rows(
     g: Gauge,
+    band: Band,
     map: &[u8],
     allowed: &[u8],
     stock: &[u32],
@@ -76,11 +81,12 @@ pub fn field_rows(
 ) -> usize
     requires { ⌜ Gauged g ⌝ }
     requires { ⌜ Sensing (g .setup) (now map) (now allowed) (now stock) (now near) (now rim) (length (now f)) ⌝ }
-    ensures { λ n. ⌜ sensed (now (f .exit)) n ≡ fieldRows (g .setup) (g .all) (now (map .entry)) (now (allowed .entry)) (now (stock .entry)) (now (near .entry)) (sensed (now (f .entry)) 0) ⌝ }
+    ensures { λ n. ⌜ sensed (now (f .exit)) n ≡ bandRows (g .setup) (g .all) (now (map .entry)) (now (allowed .entry)) (now (stock .entry)) (now (near .entry)) band (sensed (now (f .entry)) 0) ⌝ }
 {
-    let ny = g.setup.grid.ny;
+    let first = greater(1, band.lo);
+    let end = lesser(band.hi, g.setup.grid.ny - 1);
     let mut n = 0;
-    for j in 1..ny - 1 {
+    for j in first..end {
         n = field_row(g, map, allowed, stock, near, rim, f, j, n);
     }
     n

@@ -24,11 +24,11 @@ use Rattle.distance.specs.Nearest.{squaresOf}
 use Rattle.distance.specs.Rooted.{rootedOf, distanceTransform}
 use Rattle.distance.proofs.NearestLaws.{listed-at, squares-are}
 use Rattle.raster.specs.Grid.{Over, cellOf}
-use Rattle.raster.specs.Contact.{samplesOf, Rim}
 use Rattle.raster.specs.declared.grid.Grid.{Grid}
 use Rattle.raster.specs.declared.grid.Found.{Found}
 use Rattle.raster.specs.declared.grid.Found.the-variants.{Nothing, At}
 use Rattle.setup.specs.Place.{Walls}
+use Rattle.setup.specs.Tables.{Tables}
 use Rattle.setup.specs.declared.Setup.{Setup}
 use Rattle.links.specs.declared.heap.Entry.{Entry}
 use Rattle.links.specs.declared.lattice.Lattice.{Lattice}
@@ -161,7 +161,7 @@ module _ (s : Setup) (vs : List Float) (lens m : List ℕ) (w : List Float) (F :
 
 -- ---- what a change between the wall distances and the rim leaves of both
 
-module _ (s : Setup) (vs : List Float) (lens m : List ℕ) (w : List Float) (F : Fitted s vs lens m w) (a e : ℕ) (lo : s .grid .ny * s .grid .nx ≤ a) (mid : a ≤ e) (hi : e ≤ 32 * (s .grid .ny * s .grid .nx))
+module _ (s : Setup) (vs : List Float) (lens m : List ℕ) (w : List Float) (F : Fitted s vs lens m w) (a e : ℕ) (lo : s .grid .ny * s .grid .nx ≤ a) (mid : a ≤ e) (hi : e ≤ 24 * (s .grid .ny * s .grid .nx))
     (w₁ : List Float) (O : Only a e w w₁) where
   between : Fits a e w
   between = record { start = mid; end = omega (arith, F .long) }
@@ -173,7 +173,7 @@ module _ (s : Setup) (vs : List Float) (lens m : List ℕ) (w : List Float) (F :
   fitted-kept = record {
     walls = subst (λ (q : List Float). Walls s q vs lens) (sym wall-kept) (F .walls);
     over = F .over;
-    rim = subst (Rim (samplesOf (s .samples))) (sym (only-after a e w between w₁ O (32 * (s .grid .ny * s .grid .nx)) (32 * (s .grid .ny * s .grid .nx) + 4096) hi)) (F .rim);
+    tables = subst (Tables s) (sym (only-after a e w between w₁ O (24 * (s .grid .ny * s .grid .nx)) (24 * (s .grid .ny * s .grid .nx) + (8 * (s .grid .ny * s .grid .nx) + 8192)) hi)) (F .tables);
     long = omega (arith, F .long, O .long);
   }
 

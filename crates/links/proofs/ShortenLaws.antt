@@ -16,8 +16,8 @@ use Rattle.geom.specs.Region.{vertexOf}
 use Rattle.geom.specs.Points.{putPoint, points}
 use Rattle.geom.specs.declared.vec2.Vec2.{Vec2}
 use Rattle.geom.proofs.PointLaws.{put-length, put-there, points-length, points-more, points-get}
-use Rattle.raster.specs.Contact.{samplesOf, Rim}
 use Rattle.setup.specs.Place.{Walls}
+use Rattle.setup.specs.Tables.{Tables}
 use Rattle.setup.specs.declared.Setup.{Setup}
 use Rattle.links.specs.declared.path.Seen.{Seen}
 use Rattle.links.specs.declared.path.Seen.the-variants.{Nothing, Point}
@@ -137,7 +137,7 @@ module _ (s : Setup) (vs : List Float) (lens m : List ℕ) (w : List Float) (F :
   fitted-only w′ o = record {
     walls = subst (λ (q : List Float). Walls s q vs lens) (sym (only-before (20 * n) (23 * n) w path-part w′ o 0 n (omega arith) (omega arith))) (F .walls);
     over = F .over;
-    rim = subst (Rim (samplesOf (s .samples))) (sym (only-after (20 * n) (23 * n) w path-part w′ o (32 * n) (32 * n + 4096) (omega arith))) (F .rim);
+    tables = subst (Tables s) (sym (only-after (20 * n) (23 * n) w path-part w′ o (24 * n) (24 * n + (8 * n + 8192)) (omega arith))) (F .tables);
     long = omega (arith, F .long, o .long);
   }
 
@@ -147,9 +147,9 @@ unfolding within
 part-at a e b f w p q = ap (λ (z : ℕ). take (z - a) (drop a w)) q ∙ ap (λ (z : ℕ). take (f - z) (drop z w)) p
 
 -- the rim's part, as it is lent
-pub rim-at : (s : Setup) (w : List Float) (n : ℕ) → n ≡ s .grid .ny * s .grid .nx → (a : ℕ) → a ≡ 32 * n → (e : ℕ) → e ≡ 32 * n + 4096
-    → Rim (samplesOf (s .samples)) (within (32 * (s .grid .ny * s .grid .nx)) (32 * (s .grid .ny * s .grid .nx) + 4096) w) → Rim (samplesOf (s .samples)) (take (e - a) (drop a w))
-rim-at s w n N a p e q R = subst (Rim (samplesOf (s .samples))) (sym (part-at a e (32 * (s .grid .ny * s .grid .nx)) (32 * (s .grid .ny * s .grid .nx) + 4096) w (omega arith) (omega arith))) R
+pub rim-at : (s : Setup) (w : List Float) (n : ℕ) → n ≡ s .grid .ny * s .grid .nx → (a : ℕ) → a ≡ 24 * n → (e : ℕ) → e ≡ 24 * n + (8 * n + 8192)
+    → Tables s (within (24 * (s .grid .ny * s .grid .nx)) (24 * (s .grid .ny * s .grid .nx) + (8 * (s .grid .ny * s .grid .nx) + 8192)) w) → Tables s (take (e - a) (drop a w))
+rim-at s w n N a p e q R = subst (Tables s) (sym (part-at a e (24 * (s .grid .ny * s .grid .nx)) (24 * (s .grid .ny * s .grid .nx) + (8 * (s .grid .ny * s .grid .nx) + 8192)) w (omega arith) (omega arith))) R
 
 module _ (s : Setup) (w : List Float) (size : ℕ) (N : size ≡ s .grid .ny * s .grid .nx) (a : ℕ) (P : a ≡ 20 * size) where
   abbrev e : ℕ
@@ -160,7 +160,7 @@ module _ (s : Setup) (w : List Float) (size : ℕ) (N : size ≡ s .grid .ny * s
   path-at = part-at a e (20 * (s .grid .ny * s .grid .nx)) (23 * (s .grid .ny * s .grid .nx)) w (omega arith) (omega arith)
 
   -- it comes back as r
-  pub keep-is : (k : ℕ) (p : Vec2) → 32 * (s .grid .ny * s .grid .nx) ≤ length w → (r : List Float) → r ≡ putPoint k p (take (e - a) (drop a w))
+  pub keep-is : (k : ℕ) (p : Vec2) → 24 * (s .grid .ny * s .grid .nx) ≤ length w → (r : List Float) → r ≡ putPoint k p (take (e - a) (drop a w))
       → (pathIn s (putMid a (e - a) w r) ≡ putPoint k p (pathIn s w)) × Only (20 * (s .grid .ny * s .grid .nx)) (23 * (s .grid .ny * s .grid .nx)) w (putMid a (e - a) w r)
   unfolding within
   keep-is k p h r R =
@@ -171,7 +171,7 @@ module _ (s : Setup) (w : List Float) (size : ℕ) (N : size ≡ s .grid .ny * s
         only-wider a e w _ f (back-only a e w f r l) (20 * n) (23 * n) (omega arith) (omega arith) (omega arith),
       )
 
-pub path-long : (s : Setup) (w : List Float) → 32 * (s .grid .ny * s .grid .nx) ≤ length w → length (pathIn s w) ≡ 3 * (s .grid .ny * s .grid .nx)
+pub path-long : (s : Setup) (w : List Float) → 24 * (s .grid .ny * s .grid .nx) ≤ length w → length (pathIn s w) ≡ 3 * (s .grid .ny * s .grid .nx)
 unfolding within
 path-long s w h =
     let n = s .grid .ny * s .grid .nx in

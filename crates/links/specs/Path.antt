@@ -10,9 +10,9 @@ use Rattle.loops.specs.Regions.{within}
 use Rattle.geom.specs.Points.{points}
 use Rattle.geom.specs.declared.vec2.Vec2.{Vec2}
 use Rattle.raster.specs.Grid.{Over}
-use Rattle.raster.specs.Contact.{samplesOf, Rim}
-use Rattle.setup.specs.Layout.{pathFrom, rimFrom, columnsFrom, pathEnd}
+use Rattle.setup.specs.Layout.{pathFrom, rimFrom, tablesEnd, pathEnd}
 use Rattle.setup.specs.Place.{Walls, cellsOf}
+use Rattle.setup.specs.Tables.{Tables}
 use Rattle.setup.specs.declared.Setup.{Setup}
 use Rattle.links.specs.declared.lattice.Lattice.{Lattice}
 use Rattle.links.specs.declared.path.Seen.{Seen}
@@ -71,7 +71,7 @@ pointIn ps d k = getD ps k d
 unfoldable pub shortenOf : (Vec2 → Vec2 → Bool) → List Vec2 → Vec2 → Way
 shortenOf clear ps from = shortenFrom clear (pointIn ps from) (length ps) (length ps + 1) from 0 []
 
--- ---- the f64 of the workspace: wall distances, the path's points, the rim's directions
+-- ---- the f64 of the workspace: wall distances, the path's points, the tool's tables
 
 abbrev pub wallIn : Setup → List Float → List Float
 wallIn s w = within 0 (cellsOf s) w
@@ -79,8 +79,8 @@ wallIn s w = within 0 (cellsOf s) w
 abbrev pub pathIn : Setup → List Float → List Float
 pathIn s w = within (pathFrom (cellsOf s)) (pathEnd (cellsOf s)) w
 
-abbrev pub rimIn : Setup → List Float → List Float
-rimIn s w = within (rimFrom (cellsOf s)) (columnsFrom (cellsOf s)) w
+abbrev pub tablesIn : Setup → List Float → List Float
+tablesIn s w = within (rimFrom (cellsOf s)) (tablesEnd (cellsOf s)) w
 
 -- whether a straight feed is clear, by what the workspace holds
 abbrev pub clearIn : Setup → List Float → List ℕ → List ℕ → List Float → Vec2 → Vec2 → Bool
@@ -90,8 +90,8 @@ clearIn s vs lens m w a b = linkClear s (wallIn s w) vs lens m a b
 pub record Fitted (s : Setup) (vs : List Float) (lens m : List ℕ) (w : List Float) : Type 0 where
   pub walls : Walls s (wallIn s w) vs lens
   pub over : Over (s .grid) (length m)
-  pub rim : Rim (samplesOf (s .samples)) (rimIn s w)
-  pub long : 32 * cellsOf s + 4096 ≤ length w
+  pub tables : Tables s (tablesIn s w)
+  pub long : 32 * cellsOf s + 8192 ≤ length w
 
 -- the way that was kept, in the path's part
 abbrev pub shortIn : Setup → Shortened → List Float → Way

@@ -74,7 +74,7 @@ pub fn clear(s: Setup, vs: &[f64], lens: &[u32], map: &[u8], w: &[f64], a: Vec2,
 {
     let n = layout::cells(s.grid);
     let rim = layout::rim(n);
-    let end = layout::columns(n);
+    let end = layout::tables_end(n);
     link_clear(s, &w[0..n], vs, lens, map, &w[rim..end], a, b)
 }
 

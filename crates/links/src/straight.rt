@@ -3,8 +3,8 @@ ghost use mathlib.Core.Path.{_≡_};
 ghost use Prim.Native.Nat.{_≤_, _<_};
 ghost use lib.ListN.{length};
 ghost use Rattle.raster.specs.Grid.{Over};
-ghost use Rattle.raster.specs.Contact.{samplesOf, Rim};
 ghost use Rattle.setup.specs.Place.{Walls};
+ghost use Rattle.setup.specs.Tables.{lessOf, Tables};
 ghost use Rattle.links.specs.Straight.{stepsOf, pointOf, clearAt, samplesClear, linkClear};
 use geom::vec2::Vec2;
 use numbers::cast::float_of;
@@ -26,7 +26,7 @@ fn point_of(a: Vec2, b: Vec2, n: usize, k: usize) -> Vec2
     a.lerp(b, float_of(k) / float_of(n))
 }
 
-// The tool may be at q, and a tool of radius r touches no stock there.
+// The tool may be at q, and at a cell less than its radius it touches no stock there.
 fn clear_at(
     s: Setup,
     wall: &[f64],
@@ -34,16 +34,15 @@ fn clear_at(
     lens: &[u32],
     map: &[u8],
     rim: &[f64],
-    r: f64,
     q: Vec2,
 ) -> bool
     requires { ⌜ Walls s (now wall) (now vs) (now lens) ⌝ }
     requires { ⌜ Over (s .grid) (length (now map)) ⌝ }
-    requires { ⌜ Rim (samplesOf (s .samples)) (now rim) ⌝ }
-    ensures { λ b. ⌜ b ≡ clearAt s (now (wall .entry)) (now (vs .entry)) (now (lens .entry)) (now (map .entry)) r q ⌝ }
+    requires { ⌜ Tables s (now rim) ⌝ }
+    ensures { λ b. ⌜ b ≡ clearAt s (now (wall .entry)) (now (vs .entry)) (now (lens .entry)) (now (map .entry)) (lessOf s) q ⌝ }
 {
     if setup::place::allowed_at(s, wall, vs, lens, q) {
-        return angle_of(setup::place::contact(s, map, rim, q, r)) == 0.0;
+        return angle_of(setup::place::contact_less(s, map, rim, q)) == 0.0;
     }
     false
 }
@@ -56,20 +55,19 @@ fn samples_clear(
     lens: &[u32],
     map: &[u8],
     rim: &[f64],
-    r: f64,
     a: Vec2,
     b: Vec2,
     n: usize,
 ) -> bool
     requires { ⌜ Walls s (now wall) (now vs) (now lens) ⌝ }
     requires { ⌜ Over (s .grid) (length (now map)) ⌝ }
-    requires { ⌜ Rim (samplesOf (s .samples)) (now rim) ⌝ }
+    requires { ⌜ Tables s (now rim) ⌝ }
     requires { ⌜ n ≤ 200000 ⌝ }
-    ensures { λ t. ⌜ t ≡ samplesClear s (now (wall .entry)) (now (vs .entry)) (now (lens .entry)) (now (map .entry)) r a b n ⌝ }
+    ensures { λ t. ⌜ t ≡ samplesClear s (now (wall .entry)) (now (vs .entry)) (now (lens .entry)) (now (map .entry)) (lessOf s) a b n ⌝ }
 {
     for k in 0..n + 1 {
         let q = point_of(a, b, n, k);
-        if !clear_at(s, wall, vs, lens, map, rim, r, q) {
+        if !clear_at(s, wall, vs, lens, map, rim, q) {
             return false;
         }
     }
@@ -90,7 +88,7 @@ pub fn link_clear(
 ) -> bool
     requires { ⌜ Walls s (now wall) (now vs) (now lens) ⌝ }
     requires { ⌜ Over (s .grid) (length (now map)) ⌝ }
-    requires { ⌜ Rim (samplesOf (s .samples)) (now rim) ⌝ }
+    requires { ⌜ Tables s (now rim) ⌝ }
     ensures { λ t. ⌜ t ≡ linkClear s (now (wall .entry)) (now (vs .entry)) (now (lens .entry)) (now (map .entry)) a b ⌝ }
 {
     let g = s.grid;
@@ -99,7 +97,7 @@ pub fn link_clear(
         return false;
     }
     let r = s.r - g.cell;
-    if samples_clear(s, wall, vs, lens, map, rim, r, a, b, n) {
+    if samples_clear(s, wall, vs, lens, map, rim, a, b, n) {
         return raster::stock::count_disk(g, map, b, r) == 0;
     }
     false

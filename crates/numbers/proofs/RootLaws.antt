@@ -10,8 +10,8 @@ use native.Mathlib.Decide.{decLt, decLe}
 use lib.Dec.{T, leb, ltb, eqb, lit≤, lit<}
 use lib.Pow.{pow-add, pow-pos, pow-mono}
 use lib.Ieee.Digits.{size-lt}
-use lib.Ieee.{Float, nan, inf, fin, binary64, up, down, size, units, round, lt, eq, ofInt, ofBits, nanBits}
-use lib.Ieee.Bits.{nanBits-above}
+use lib.Ieee.{Float, nan, inf, fin, binary64, up, down, size, units, round, lt, eq, fits, ofInt, ofBits, toBits, nanBits}
+use lib.Ieee.Bits.{nanBits-above, ofBits-toBits}
 use lib.IntN.{pos}
 use lib.Ieee.Fits.{up-pos, ofInt-fits}
 use lib.Ieee.Exact.{HasValue}
@@ -133,6 +133,48 @@ near-square n q Q lo hi =
     let a : 2 * q * (2 * q) ≡ y * y + 2 * (y * 1) + 1 * 1 = ap (λ (z : ℕ). z * z) e ∙ sum-sq y 1 in
     let b : (2 * q + 1) * (2 * q + 1) ≡ 2 * q * (2 * q) + 2 * (2 * q * 1) + 1 * 1 = sum-sq (2 * q) 1 in
     record { lo = omega arith; hi = omega arith }
+
+-- ---- the square of q by halves of 26 digits
+module _ (q : ℕ) (Q : q ≤ 2 ^ 53) where
+  abbrev upper : ℕ
+  upper = q / 67108864
+
+  abbrev lower : ℕ
+  lower = q % 67108864
+
+  upper-lt : upper < 2 ^ 28
+  upper-lt = omega arith
+
+  lower-lt : lower < 2 ^ 26
+  lower-lt = omega arith
+
+  pub upper-few : upper * upper < 2 ^ 56
+  upper-few = product-lt 28 28 upper upper upper-lt upper-lt
+
+  pub middle-few : upper * lower < 2 ^ 54
+  middle-few = product-lt 28 26 upper lower upper-lt lower-lt
+
+  pub lower-few : lower * lower < 2 ^ 52
+  lower-few = product-lt 26 26 lower lower lower-lt lower-lt
+
+  square-is : q * q ≡ upper * upper * 4503599627370496 + upper * lower * 134217728 + lower * lower
+  square-is =
+      let p = upper * 67108864 in
+      let x : q ≡ p + lower = omega arith in
+      let y : q * q ≡ p * p + 2 * (p * lower) + lower * lower = ap (λ (z : ℕ). z * z) x ∙ sum-sq p lower in
+      let u : p * p ≡ upper * upper * 4503599627370496 = mul-mul-mul-comm upper 67108864 upper 67108864 in
+      let v : p * lower ≡ upper * lower * 67108864 = mul-right-comm upper 67108864 lower in
+      omega arith
+
+  -- u is what the upper half leaves of hi, and d what the products of both leave of u, raised; neither has wrapped
+  pub near-halves : (hi u d t : ℕ) → (u + upper * upper) % 2 ^ 64 ≡ hi → u < 1073741824 → (d + u * 67108864) % 2 ^ 64 ≡ 2 * (upper * lower) + 268435456 → d < 536870912
+      → (t + 18014398509481984) % 2 ^ 64 ≡ d * 67108864 + lower * lower + q → t < 2 * q → NearRoot (hi * 2 ^ 54) q
+  near-halves hi u d t e₁ l₁ e₂ l₂ e₃ l₃ =
+      let a : u + upper * upper ≡ hi = omega (arith, upper-few) in
+      let b : d + u * 67108864 ≡ 2 * (upper * lower) + 268435456 = omega arith in
+      let c : t + 18014398509481984 ≡ d * 67108864 + lower * lower + q = omega arith in
+      let f : 2 * q * (2 * q) ≡ q * q * 4 = twice-sq q in
+      near-square (hi * 2 ^ 54) q (omega arith) (omega (arith, square-is)) (omega (arith, square-is))
 
 -- ---- a digit of the slow root: i falls by one
 abbrev pub Bracket : ℕ → ℕ → ℕ → Type 0
@@ -426,6 +468,14 @@ root-few m e q D N = go e q (D .few) (sq-le-back (2 * q - 1) (2 ^ 54) _ (N .lo) 
 
     room : (m e : ℕ) → m < 9007199254740992 → (m + m * (e % 2)) * 18014398509481984 < 18014398509481984 * 18014398509481984
     room m e h = let k : m * (e % 2) ≤ m = at-most m e in omega arith
+
+-- a float is the root if its pattern is the exponent's half and the digits of the root
+pub root-by-digits : (r : Float) (m e q : ℕ) → T (fits binary64 r) → Digits m e → (q + (e / 2 + 485) * 2 ^ 52) % 2 ^ 64 ≡ toBits binary64 r → NearRoot ((m + m * (e % 2)) * 2 ^ 54) q → RootFrom m e r
+root-by-digits r m e q F D w N =
+    record { is = λ x p y. sym (ofBits-toBits binary64 r F) ∙ ap (ofBits binary64) (sym w ∙ whole ((e / 2 + 485) * 2 ^ 52) q (root-few m e q D N)) ∙ result x m e q p y N .is }
+  where
+    whole : (h q : ℕ) → h + q < 9218868437227405312 → (q + h) % 18446744073709551616 ≡ h + q
+    whole h q l = omega arith
 
 -- ---- a whole number as a float
 

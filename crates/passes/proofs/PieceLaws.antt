@@ -13,7 +13,6 @@ use Rattle.loops.proofs.RegionLaws.{put-back, put-before, put-after, put-length
 use Rattle.geom.specs.Points.{points}
 use Rattle.geom.specs.declared.vec2.Vec2.{Vec2}
 use Rattle.raster.specs.Grid.{Over}
-use Rattle.raster.specs.Contact.{samplesOf, Rim}
 use Rattle.raster.specs.Log.{st, Ready}
 use Rattle.raster.proofs.LogLaws.{Kept}
 use Rattle.setup.specs.Layout.{guideFrom, rimFrom}
@@ -27,6 +26,7 @@ use Rattle.passes.specs.Guide.{blendOf, walkOf, flat, pointsIn, bentOr, 
 use Rattle.passes.specs.declared.attempt.Attempt.the-variants.{Nothing}
 use Rattle.passes.specs.Attempt.{answerOf, Answered, ans, answered, outcomeOf, startBy}
 use Rattle.setup.specs.Made.{Measured}
+use Rattle.setup.specs.Tables.{Tables}
 use Rattle.passes.specs.Tried.{jobAt}
 use Rattle.passes.proofs.LayLaws.{flat-length, points-flat, walk-length, part-half, part-some}
 use Rattle.passes.proofs.BlendLaws.{blend-begins, blend-length}
@@ -69,11 +69,11 @@ bent-long s allowed free pts n e (some l) d = blend-length s allowed free pts l 
 -- in the workspace: the wall distances first, the piece, the guide behind it, the rim behind that
 pub record Spread (s : Setup) (vs : List Float) (lens : List ℕ) (w : List Float) (cells rim from m start n at : ℕ) : Type 0 where
   pub walls : Walls s (within 0 cells w) vs lens
-  pub round : Rim (samplesOf (s .samples)) (within rim (rim + 4096) w)
+  pub round : Tables s (within rim (rim + (8 * cells + 8192)) w)
   pub ahead : Ahead from m start n at (length w)
   pub low : cells ≤ at
   pub high : at + 2 * n ≤ rim
-  pub end : rim + 4096 ≤ length w
+  pub end : rim + (8 * cells + 8192) ≤ length w
   pub some : 1 ≤ n
 
 module _ (s : Setup) (vs : List Float) (lens : List ℕ) (w : List Float) (cells rim from m start n at : ℕ) (A : Spread s vs lens w cells rim from m start n at) (mp : List ℕ) where
@@ -102,8 +102,8 @@ module _ (s : Setup) (vs : List Float) (lens : List ℕ) (w : List Float) (cells
     pub start-walls : Walls s (within 0 cells w₁) vs lens
     start-walls = subst (λ (v : List Float). Walls s v vs lens) (sym wall-same) (A .walls)
 
-    pub start-rim : Rim (samplesOf (s .samples)) (within rim (rim + 4096) w₁)
-    start-rim = subst (Rim (samplesOf (s .samples))) (sym (ap (within rim (rim + 4096)) W ∙ put-after at (at + 2 * n) w (flat (bentOr trod blend)) fits flat-long rim (rim + 4096) (A .high))) (A .round)
+    pub start-rim : Tables s (within rim (rim + (8 * cells + 8192)) w₁)
+    start-rim = subst (Tables s) (sym (ap (within rim (rim + (8 * cells + 8192))) W ∙ put-after at (at + 2 * n) w (flat (bentOr trod blend)) fits flat-long rim (rim + (8 * cells + 8192)) (A .high))) (A .round)
 
     pub start-point : 2 ≤ length (take (at + 2 * n - at) (drop at w₁))
     start-point = part-some at n w₁ (let a = A .ahead .within in omega (arith, start-long)) (A .some)
@@ -144,7 +144,8 @@ module _ (s : Setup) (vs : List Float) (lens mp : List ℕ) (w : List Float) (F 
   pub start-spread : (rim : ℕ) → rim ≡ rimFrom cells → Spread s vs lens w cells rim from m start n at
   start-spread rim I = record {
     walls = start-lays .0;
-    round = subst (λ (k : ℕ). Rim (samplesOf (s .samples)) (within k (k + 4096) w)) (let i : 32 * cellsOf s ≡ rim = omega arith in i) (F .rim);
+    round = subst (λ (k : ℕ). Tables s (within rim (rim + (8 * k + 8192)) w)) (sym N)
+        (subst (λ (k : ℕ). Tables s (within k (k + (8 * cellsOf s + 8192)) w)) (let i : 24 * cellsOf s ≡ rim = omega arith in i) (F .tables));
     ahead = start-ahead;
     low = omega arith;
     high = omega (arith, A .within);

@@ -5,9 +5,9 @@ ghost use Prim.Native.Nat.{_/_, _≤_};
 ghost use lib.ListN.{length};
 ghost use Rattle.geom.specs.Points.{points};
 ghost use Rattle.raster.specs.Log.{st, Ready};
-ghost use Rattle.raster.specs.Contact.{samplesOf, Rim};
 ghost use Rattle.setup.specs.Layout.{guideFrom, rimFrom};
 ghost use Rattle.setup.specs.Place.{Walls, allowedAt, cellsOf};
+ghost use Rattle.setup.specs.Tables.{Tables};
 ghost use Rattle.links.specs.Path.{wallIn, Fitted};
 ghost use Rattle.passes.specs.Simulate.{Usable};
 ghost use Rattle.passes.specs.Guide.{blendIn, laidIn, Ahead};
@@ -39,7 +39,7 @@ pub fn try_guide(
     kept: usize,
 ) -> Attempt
     requires { ⌜ Walls s (now wall) (now vs) (now lens) ⌝ }
-    requires { ⌜ Rim (samplesOf (s .samples)) (now rim) ⌝ }
+    requires { ⌜ Tables s (now rim) ⌝ }
     requires { ⌜ Usable s (now map) (now log) (now guide) ⌝ }
     ensures { λ _. ⌜ now (map .exit) ≡ now (map .entry) ⌝ }
     ensures { λ r. ⌜ ans (now (log .exit)) (now (triples .exit)) r ≡ answered (outcomeOf s (allowedAt s (now (wall .entry)) (now (vs .entry)) (now (lens .entry))) (points 0 (length (now (guide .entry)) / 2) (now (guide .entry))) kept (now (map .entry)) (now (log .entry)) (now (triples .entry))) ⌝ }
@@ -86,7 +86,7 @@ pub fn try_start(
     if lay_guide(s, vs, lens, map, w, cells, from, m, start, n, at) {
         let e = at + 2 * n;
         let rim = layout::rim(cells);
-        let end = rim + 4096;
+        let end = rim + (8 * cells + 8192);
         return try_guide(
             s,
             &w[0..cells],

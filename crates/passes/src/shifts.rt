@@ -2,8 +2,8 @@
 ghost use mathlib.Core.Path.{_≡_};
 ghost use lib.ListN.{length};
 ghost use Rattle.raster.specs.Grid.{Over};
-ghost use Rattle.raster.specs.Contact.{samplesOf, Rim};
 ghost use Rattle.setup.specs.Place.{Walls, allowedAt};
+ghost use Rattle.setup.specs.Tables.{Tables};
 ghost use Rattle.passes.specs.Shifts.{maxShift, satAdd, movedOf, probeOf, tryOf, easeOf, searchOf};
 use geom::vec2::Vec2;
 use raster::contact::Contact;
@@ -63,12 +63,12 @@ fn probe_at(
     q: Vec2,
 ) -> Probe
     requires { ⌜ Walls s (now wall) (now vs) (now lens) ⌝ }
-    requires { ⌜ Rim (samplesOf (s .samples)) (now rim) ⌝ }
+    requires { ⌜ Tables s (now rim) ⌝ }
     requires { ⌜ Over (s .grid) (length (now map)) ⌝ }
     ensures { λ p. ⌜ p ≡ probeOf s (allowedAt s (now (wall .entry)) (now (vs .entry)) (now (lens .entry))) (now (map .entry)) q ⌝ }
 {
     if setup::place::allowed_at(s, wall, vs, lens, q) {
-        return Probe::Counted(setup::place::contact(s, map, rim, q, s.r_guard));
+        return Probe::Counted(setup::place::contact_wide(s, map, rim, q));
     }
     Probe::Barred
 }
@@ -88,7 +88,7 @@ fn try_shift(
     work: usize,
 ) -> Search
     requires { ⌜ Walls s (now wall) (now vs) (now lens) ⌝ }
-    requires { ⌜ Rim (samplesOf (s .samples)) (now rim) ⌝ }
+    requires { ⌜ Tables s (now rim) ⌝ }
     requires { ⌜ Over (s .grid) (length (now map)) ⌝ }
     ensures { λ r. ⌜ r ≡ tryOf s (allowedAt s (now (wall .entry)) (now (vs .entry)) (now (lens .entry))) (now (map .entry)) g left sh limit work ⌝ }
 {
@@ -131,7 +131,7 @@ fn ease(
     work: usize,
 ) -> Search
     requires { ⌜ Walls s (now wall) (now vs) (now lens) ⌝ }
-    requires { ⌜ Rim (samplesOf (s .samples)) (now rim) ⌝ }
+    requires { ⌜ Tables s (now rim) ⌝ }
     requires { ⌜ Over (s .grid) (length (now map)) ⌝ }
     ensures { λ r. ⌜ r ≡ easeOf s (allowedAt s (now (wall .entry)) (now (vs .entry)) (now (lens .entry))) (now (map .entry)) g left step shift work ⌝ }
 {
@@ -161,7 +161,7 @@ pub fn find_shift(
     work: usize,
 ) -> Search
     requires { ⌜ Walls s (now wall) (now vs) (now lens) ⌝ }
-    requires { ⌜ Rim (samplesOf (s .samples)) (now rim) ⌝ }
+    requires { ⌜ Tables s (now rim) ⌝ }
     requires { ⌜ Over (s .grid) (length (now map)) ⌝ }
     ensures { λ r. ⌜ r ≡ searchOf s (allowedAt s (now (wall .entry)) (now (vs .entry)) (now (lens .entry))) (now (map .entry)) g left step most shift work ⌝ }
 {

@@ -4,8 +4,8 @@ ghost use Prim.Native.Nat.{_+_, _*_, _/_, _-_, _≤_, _<_};
 ghost use lib.ListN.{length};
 ghost use Rattle.geom.specs.Region.{vertexOf};
 ghost use Rattle.geom.specs.Points.{points};
-ghost use Rattle.raster.specs.Contact.{samplesOf, Rim};
 ghost use Rattle.setup.specs.Place.{Walls, allowedAt};
+ghost use Rattle.setup.specs.Tables.{Tables};
 ghost use Rattle.passes.specs.Simulate.{legOf, sampleOf, gapOf, ps, advanceOf, simulateOf, Usable, Fit};
 use super::shifts::Shift;
 use super::shifts::find_shift;
@@ -14,6 +14,7 @@ use geom::region::vertex;
 use geom::vec2::Vec2;
 use numbers::cast::float_of;
 use setup::Setup;
+use spans::crescent::clear_crescent;
 
 // A straight part of the guide, its free side and its samples; none where it has no length.
 pub struct Leg {
@@ -81,6 +82,7 @@ fn gap(h: f64, most: f64, q: Vec2, prev: Vec2) -> bool
 // The tool goes to q: the crescent is cleared, the point written.
 fn advance(
     s: Setup,
+    rim: &[f64],
     map: &mut [u8],
     log: &mut [u32],
     triples: &mut [f64],
@@ -90,16 +92,19 @@ fn advance(
     e: f64,
     x: f64,
 ) -> Trial
+    requires { ⌜ Tables s (now rim) ⌝ }
     requires { ⌜ Fit s (ps (now map) (now log) (now triples) t) ⌝ }
     requires { ⌜ kept + t .points < length (now triples) / 3 ⌝ }
     ensures { λ r. ⌜ ps (now (map .exit)) (now (log .exit)) (now (triples .exit)) r ≡ advanceOf s kept q e x (ps (now (map .entry)) (now (log .entry)) (now (triples .entry)) t) ⌝ }
 {
     let g = s.grid;
-    let n = raster::log::clear_disk_after_logged(g, map, t.prev, q, s.r, log, t.removed);
-    events::list::put_triple(triples, kept + t.points, q, e);
+    let at = kept + t.points;
+    let points = t.points + 1;
+    let n = clear_crescent(g, map, t.prev, q, s.r, &rim[6144..8192], log, t.removed);
+    events::list::put_triple(triples, at, q, e);
     Trial {
         full: t.full,
-        points: t.points + 1,
+        points,
         removed: n,
         work: t.work,
         prev: q,
@@ -121,7 +126,7 @@ pub fn simulate(
     kept: usize,
 ) -> Trial
     requires { ⌜ Walls s (now wall) (now vs) (now lens) ⌝ }
-    requires { ⌜ Rim (samplesOf (s .samples)) (now rim) ⌝ }
+    requires { ⌜ Tables s (now rim) ⌝ }
     requires { ⌜ Usable s (now map) (now log) (now guide) ⌝ }
     ensures { λ r. ⌜ ps (now (map .exit)) (now (log .exit)) (now (triples .exit)) r ≡ simulateOf s (allowedAt s (now (wall .entry)) (now (vs .entry)) (now (lens .entry))) (points 0 (length (now (guide .entry)) / 2) (now (guide .entry))) kept (now (map .entry)) (now (log .entry)) (now (triples .entry)) ⌝ }
 {
@@ -184,7 +189,7 @@ pub fn simulate(
                 t.full = true;
                 break 'outer;
             }
-            t = advance(s, map, log, triples, kept, t, q, e, x);
+            t = advance(s, rim, map, log, triples, kept, t, q, e, x);
         }
     }
     t

@@ -1,6 +1,12 @@
 // The cells of a row whose centres lie in a disk, the rows that a disk can reach, and a crescent's row.
 ghost use mathlib.Core.Path.{_≡_};
-ghost use Prim.Native.Nat.{_-_, min};
+ghost use mathlib.Core.Bool.{true, false};
+ghost use Prim.Native.Nat.{_-_, _^_, _≤_, min};
+ghost use lib.IntN.{pos};
+ghost use lib.Ieee as Ieee;
+ghost use lib.Ieee.{fin};
+ghost use Rattle.numbers.specs.Whole.{floorOf};
+ghost use Rattle.numbers.specs.Cast.{float};
 ghost use Rattle.raster.specs.Disk.{rowY, cellAt, firstFrom, colsOf, chordOf, lastRow, rowsOf, leftOf, rightOf, less};
 use super::grid::Grid;
 use geom::vec2::Vec2;
@@ -28,7 +34,7 @@ pub fn row_y(g: Grid, j: usize) -> f64
 }
 
 // A coordinate as a fractional cell number: the centre of cell i is at i.
-fn place(x: f64, o: f64, cell: f64) -> f64
+pub fn place(x: f64, o: f64, cell: f64) -> f64
     ensures { λ r. ⌜ r ≡ cellAt x o cell ⌝ }
 {
     (x - o) / cell - 0.5
@@ -72,6 +78,45 @@ fn cols_of(i0: f64, i1: f64, nx: usize) -> Span
     )
 }
 
+// The same of numbers that are whole already.
+fn cols_between(k0: usize, k1: usize, nx: usize) -> Span
+    requires { ⌜ k0 ≤ 2 ^ 32 ⌝ }
+    requires { ⌜ k1 ≤ 2 ^ 32 ⌝ }
+    ensures { λ s. ⌜ s ≡ colsOf (float k0) (float k1) nx ⌝ }
+{
+    if k1 < k0 {
+        return Span::Empty;
+    }
+    if nx <= k0 {
+        return Span::Empty;
+    }
+    Span::Cols(k0, at_most_last(k1, nx))
+}
+
+// The first whole cell number from x on, for 1 <= x < 2^32: the cast, raised where it cut.
+fn raised(x: f64) -> usize
+    requires { ⌜ Ieee.le (fin false 1 (pos 0)) x ≡ true ⌝ }
+    requires { ⌜ Ieee.lt x (fin false 1 (pos 32)) ≡ true ⌝ }
+    ensures { λ k. ⌜ (float k ≡ firstFrom x) × (k ≤ 2 ^ 32) ⌝ }
+{
+    let t = numbers::cast::sat_u32(x);
+    if (t as f64) < x {
+        return (t as usize) + 1;
+    }
+    t as usize
+}
+
+// The columns from place x0 to place x1. On a grid both are cast at once; floors and ceilings as floats take
+// several times as long.
+pub fn cols_from(x0: f64, x1: f64, nx: usize) -> Span
+    ensures { λ s. ⌜ s ≡ colsOf (firstFrom x0) (floorOf x1) nx ⌝ }
+{
+    if (x0 >= 1.0) & (x0 < 4294967296.0) & (x1 >= 1.0) & (x1 < 4294967296.0) {
+        return cols_between(raised(x0), numbers::cast::sat_u32(x1) as usize, nx);
+    }
+    cols_of(first_from(x0), numbers::whole::floor(x1), nx)
+}
+
 // The columns of a row in the disk at c. Its radius comes squared, once for all its rows.
 pub fn chord(g: Grid, c: Vec2, r2: f64, j: usize) -> Span
     ensures { λ s. ⌜ s ≡ chordOf g c r2 j ⌝ }
@@ -82,9 +127,9 @@ pub fn chord(g: Grid, c: Vec2, r2: f64, j: usize) -> Span
         return Span::Empty;
     }
     let h = numbers::root::sqrt(h2);
-    let i0 = first_from(place(c.x - h, g.origin.x, g.cell));
-    let i1 = numbers::whole::floor(place(c.x + h, g.origin.x, g.cell));
-    cols_of(i0, i1, g.nx)
+    let x0 = place(c.x - h, g.origin.x, g.cell);
+    let x1 = place(c.x + h, g.origin.x, g.cell);
+    cols_from(x0, x1, g.nx)
 }
 
 fn last_row(j1: f64, ny: usize) -> usize

@@ -33,7 +33,13 @@ fn clear_run(map: &mut [u8], from: usize, to: usize, log: &mut [u32], count: usi
     n
 }
 
-fn clear_span_logged(map: &mut [u8], base: usize, s: Span, log: &mut [u32], count: usize) -> usize
+pub fn clear_span_logged(
+    map: &mut [u8],
+    base: usize,
+    s: Span,
+    log: &mut [u32],
+    count: usize,
+) -> usize
     requires { ⌜ Inside base (length (now map)) s ⌝ }
     requires { ⌜ Ready (st (now map) (now log) count) ⌝ }
     ensures { λ n. ⌜ st (now (map .exit)) (now (log .exit)) n ≡ overSpan clearCell base s (st (now (map .entry)) (now (log .entry)) count) ⌝ }

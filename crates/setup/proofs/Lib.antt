@@ -4,3 +4,4 @@ pub mod LimitLaws
 pub mod PlaceLaws
 pub mod PartLaws
 pub mod MadeLaws
+pub mod TableLaws

@@ -104,11 +104,15 @@ pathEnd n = 23 * n
 
 -- directions of the rim's samples, at most 2,048
 abbrev pub rimFrom : ℕ → ℕ
-rimFrom n = 32 * n
+rimFrom n = 24 * n
 
--- where the columns of a raster are, one number for each
+-- where the columns of a raster are, one number for each, while regions are filled; then the cells under the rim
 abbrev pub columnsFrom : ℕ → ℕ
-columnsFrom n = 32 * n + 4096
+columnsFrom n = 24 * n + 4096
+
+-- behind them
+abbrev pub tablesEnd : ℕ → ℕ
+tablesEnd n = rimFrom n + (8 * n + 8192)
 
 -- ---- the table
 
@@ -146,7 +150,7 @@ doubles n =
     ∷ at (estimatesFrom n) (9 * n)
     ∷ at (pathFrom n) (3 * n)
     ∷ at (rimFrom n) 4096
-    ∷ at (columnsFrom n) 4096
+    ∷ at (columnsFrom n) (8 * n + 4096)
     ∷ []
 
 -- each region begins at `from` or later and behind the one before it, and the last ends within `size`

@@ -3,3 +3,4 @@ pub mod Layout
 pub mod Limits
 pub mod Place
 pub mod Made
+pub mod Tables

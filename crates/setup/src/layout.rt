@@ -4,7 +4,7 @@ ghost use Prim.Native.Nat.{_*_, _≤_};
 ghost use Rattle.raster.specs.Grid.{Sides};
 ghost use Rattle.setup.specs.Layout.{most, allowedFrom, reachFrom, abandonedFrom, dirtyFrom, insideFrom, marksFrom};
 ghost use Rattle.setup.specs.Layout.{nearFrom, beforeFrom, segmentsFrom, logFrom};
-ghost use Rattle.setup.specs.Layout.{ringFrom, tracedFrom, guideFrom, costFrom, pathFrom, rimFrom, columnsFrom};
+ghost use Rattle.setup.specs.Layout.{ringFrom, tracedFrom, guideFrom, costFrom, pathFrom, rimFrom, columnsFrom, tablesEnd};
 use raster::grid::Grid;
 
 // A raster's cells.
@@ -132,12 +132,19 @@ pub fn rim(n: usize) -> usize
     requires { ⌜ n ≤ most ⌝ }
     ensures { λ r. ⌜ r ≡ rimFrom n ⌝ }
 {
-    32 * n
+    24 * n
 }
 
 pub fn columns(n: usize) -> usize
     requires { ⌜ n ≤ most ⌝ }
     ensures { λ r. ⌜ r ≡ columnsFrom n ⌝ }
 {
-    32 * n + 4096
+    24 * n + 4096
+}
+
+pub fn tables_end(n: usize) -> usize
+    requires { ⌜ n ≤ most ⌝ }
+    ensures { λ r. ⌜ r ≡ tablesEnd n ⌝ }
+{
+    32 * n + 8192
 }

@@ -7,6 +7,7 @@ pub mod fill;
 pub mod layout;
 pub mod limits;
 pub mod place;
+pub mod tables;
 
 use geom::region::Region;
 use numbers::bound::Bound;

@@ -1,14 +1,19 @@
 // The tests that planning makes of a tool's place.
 ghost use mathlib.Core.Path.{_≡_};
+ghost use Prim.Native.Nat.{_≤_};
 ghost use lib.ListN.{length};
 ghost use Rattle.raster.specs.Grid.{Over};
-ghost use Rattle.raster.specs.Contact.{samplesOf, Rim};
+ghost use Rattle.raster.specs.Contact.{samplesOf};
+ghost use Rattle.rims.specs.Boxes.{Boxed};
+ghost use Rattle.setup.specs.Tables.{lessOf, Tables};
 ghost use Rattle.setup.specs.Place.{Walls, wallAt, allowedAt, freeAt, contactAt, biteOf};
 use super::Setup;
 use geom::vec2::Vec2;
 use raster::contact::Contact;
+use raster::contact::samples_of;
 use raster::grid::Found;
 use raster::grid::Grid;
+use rims::contact::rim_hits;
 
 // Whether the wall distance of p's cell, and twice a cell, reach `keep`: the cheap test.
 fn wall_at(g: Grid, wall: &[f64], keep: f64, p: Vec2) -> bool
@@ -49,14 +54,37 @@ pub fn free(s: Setup, map: &[u8], p: Vec2) -> bool
     raster::stock::count_disk(g, map, p, s.r) == 0
 }
 
-// Contact of a tool of radius r at p.
-pub fn contact(s: Setup, map: &[u8], rim: &[f64], p: Vec2, r: f64) -> Contact
+// Contact of a tool of radius r at p, by the table at `at`.
+fn contact(s: Setup, map: &[u8], rim: &[f64], p: Vec2, r: f64, at: usize) -> Contact
     requires { ⌜ Over (s .grid) (length (now map)) ⌝ }
-    requires { ⌜ Rim (samplesOf (s .samples)) (now rim) ⌝ }
+    requires { ⌜ Tables s (now rim) ⌝ }
+    requires { ⌜ (at ≤ 14848) × Boxed (s .grid) r (samplesOf (s .samples)) at (now rim) ⌝ }
     ensures { λ t. ⌜ t ≡ contactAt s (now (map .entry)) p r ⌝ }
 {
+    let n = samples_of(s.samples);
+    Contact {
+        hits: rim_hits(s.grid, map, p, r, rim, n, at),
+        samples: n,
+    }
+}
+
+// At the wider radius, as of a pass.
+pub fn contact_wide(s: Setup, map: &[u8], rim: &[f64], p: Vec2) -> Contact
+    requires { ⌜ Over (s .grid) (length (now map)) ⌝ }
+    requires { ⌜ Tables s (now rim) ⌝ }
+    ensures { λ t. ⌜ t ≡ contactAt s (now (map .entry)) p (s .«r_guard») ⌝ }
+{
+    contact(s, map, rim, p, s.r_guard, 12544)
+}
+
+// At a cell less than the tool's radius, as of a link.
+pub fn contact_less(s: Setup, map: &[u8], rim: &[f64], p: Vec2) -> Contact
+    requires { ⌜ Over (s .grid) (length (now map)) ⌝ }
+    requires { ⌜ Tables s (now rim) ⌝ }
+    ensures { λ t. ⌜ t ≡ contactAt s (now (map .entry)) p (lessOf s) ⌝ }
+{
     let g = s.grid;
-    raster::contact::rim_contact(g, map, p, r, rim, s.samples)
+    contact(s, map, rim, p, s.r - g.cell, 14848)
 }
 
 // How deep a straight cut at the target bites.

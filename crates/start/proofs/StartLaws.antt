@@ -8,50 +8,38 @@ use lib.ListN.{length, take, drop, replicate, length-replicate}
 use lib.Ieee.{Float}
 use borrow.Rule.Slice.PartMut.{putMid}
 use Rattle.loops.specs.Regions.{Fits, within}
-use Rattle.loops.proofs.RegionLaws.{region-long}
 use Rattle.loops.proofs.FrameLaws.{back-there, back-only, only-before}
 use Rattle.numbers.specs.Bound.{Bounds}
 use Rattle.geom.specs.Region.{Held}
 use Rattle.raster.specs.Grid.{Sides}
-use Rattle.raster.specs.Contact.{samplesOf, Rim, rimmed}
 use Rattle.raster.specs.declared.grid.Grid.{Grid}
-use Rattle.raster.proofs.ContactLaws.{rim-long}
-use Rattle.setup.specs.Layout.{run, rimFrom, columnsFrom, Lent}
+use Rattle.setup.specs.Layout.{run, rimFrom, tablesEnd, Lent}
 use Rattle.setup.specs.Place.{cellsOf}
+use Rattle.setup.specs.Tables.{Tables}
 use Rattle.setup.specs.declared.Setup.{Setup}
 use Rattle.setup.proofs.LayoutLaws.{run-put}
-use Rattle.links.specs.Path.{rimIn}
+use Rattle.links.specs.Path.{tablesIn}
 use Rattle.entry.specs.Regions.{pocketOf}
 use Rattle.start.specs.Start.{insideOf, stockOf, wallsOf, allowedOf, reachOf, Started}
-use Rattle.start.specs.Steps.{Room, Stocked, Reached, Rimmed}
+use Rattle.start.specs.Steps.{Room, Stocked, Reached, Tabled}
 use Rattle.start.proofs.WriteLaws.{zeros, zeroed-is}
 
--- ---- the rim
+-- ---- the tables
 
-pub samples-most : (n : ℕ) → n ≤ 2048 → samplesOf n ≤ 2048
-unfolding samplesOf
-samples-most n h = omega arith
+module _ (s : Setup) (w : List Float) (n a e : ℕ) (N : n ≡ cellsOf s) (A : a ≡ rimFrom n) (E : e ≡ tablesEnd n) (h : 32 * cellsOf s + 8192 ≤ length w) where
+  tables-fit : Fits a e w
+  tables-fit = record { start = omega arith; end = omega arith }
 
-module _ (s : Setup) (w t : List Float) (n a e m : ℕ) (N : n ≡ cellsOf s) (A : a ≡ rimFrom n) (E : e ≡ columnsFrom n) (M : m ≡ samplesOf (s .samples)) (h : 32 * cellsOf s + 8192 ≤ length w) where
-  rim-fits : Fits a e w
-  rim-fits = record { start = omega arith; end = omega arith }
-
-  -- the table's room
-  pub rim-room : s .samples ≤ 2048 → 2 * m ≤ length (take (e - a) (drop a w))
-  rim-room b = omega (arith, region-long a e w rim-fits, samples-most (s .samples) b)
-
-  pub rimmed-is : t ≡ rimmed m (take (e - a) (drop a w)) → Rim m t → Rimmed s w (putMid a (e - a) w t)
-  unfolding rimmed
-  rimmed-is T R =
-      let l : length t ≡ length (take (e - a) (drop a w)) = ap length T ∙ rim-long m 0 m (take (e - a) (drop a w)) in
-      let back = back-there a e w rim-fits t l in
+  pub tabled-is : (t : List Float) → length t ≡ length (take (e - a) (drop a w)) → Tables s t → Tabled s w (putMid a (e - a) w t)
+  tabled-is t l T =
+      let back = back-there a e w tables-fit t l in
       let from : a ≡ rimFrom (cellsOf s) = A ∙ ap rimFrom N in
-      let to : e ≡ columnsFrom (cellsOf s) = E ∙ ap columnsFrom N in
-      let there : rimIn s (putMid a (e - a) w t) ≡ t =
+      let to : e ≡ tablesEnd (cellsOf s) = E ∙ ap tablesEnd N in
+      let there : tablesIn s (putMid a (e - a) w t) ≡ t =
       sym (ap (λ (z : ℕ). within z e (putMid a (e - a) w t)) from ∙ ap (λ (z : ℕ). within (rimFrom (cellsOf s)) z (putMid a (e - a) w t)) to) ∙ back in
       record {
-        rim = subst (λ (k : ℕ). Rim k (rimIn s (putMid a (e - a) w t))) M (subst (Rim m) (sym there) R);
-        wall = only-before a e w rim-fits (putMid a (e - a) w t) (back-only a e w rim-fits t l) 0 (cellsOf s) (omega arith) (omega arith);
+        tables = subst (Tables s) (sym there) T;
+        wall = only-before a e w tables-fit (putMid a (e - a) w t) (back-only a e w tables-fit t l) 0 (cellsOf s) (omega arith) (omega arith);
       }
 
 -- ---- the log
@@ -69,7 +57,7 @@ log-is g u t n a N K h T =
 
 module _ (s : Setup) (whole : Bool) (vs : List Float) (lens regions b u : List ℕ) (w : List Float) (sides : Sides (s .grid)) (held : Held vs lens (s .region)) (bound : Bounds (s .keep) (s .bound))
     (room : Room (cellsOf s) (length b) (length u) (length w)) (b₁ b₂ : List ℕ) (w₂ w₃ : List Float) (u₃ : List ℕ) where
-  pub started-is : Stocked (s .grid) whole vs lens regions b₁ → Reached s vs lens b₁ b₂ w₂ → Rimmed s w₂ w₃ → run 24 (cellsOf s) u₃ ≡ zeros (cellsOf s)
+  pub started-is : Stocked (s .grid) whole vs lens regions b₁ → Reached s vs lens b₁ b₂ w₂ → Tabled s w₂ w₃ → run 24 (cellsOf s) u₃ ≡ zeros (cellsOf s)
       → length b₂ ≡ length b → length u₃ ≡ length u → length w₃ ≡ length w → Started s whole vs lens regions b₂ u₃ w₃
   started-is S R W L x y z =
       let size = cellsOf s in
@@ -91,7 +79,7 @@ module _ (s : Setup) (whole : Bool) (vs : List Float) (lens regions b u : List �
           doubles = omega (arith, room .doubles);
           held = held;
           bound = bound;
-          table = W .rim;
+          tables = W .tables;
         };
       }
 

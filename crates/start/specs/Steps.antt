@@ -12,12 +12,12 @@ use Rattle.distance.specs.Rooted.{rootedOf}
 use Rattle.distance.specs.Limits.{passesOf}
 use Rattle.distance.specs.declared.limits.Threshold.{Threshold}
 use Rattle.raster.specs.Grid.{Sides}
-use Rattle.raster.specs.Contact.{samplesOf, Rim}
 use Rattle.raster.specs.declared.grid.Grid.{Grid}
 use Rattle.setup.specs.Layout.{run, mapIn, allowedIn, dirtyIn}
 use Rattle.setup.specs.Place.{cellsOf}
+use Rattle.setup.specs.Tables.{Tables}
 use Rattle.setup.specs.declared.Setup.{Setup}
-use Rattle.links.specs.Path.{wallIn, rimIn}
+use Rattle.links.specs.Path.{wallIn, tablesIn}
 use Rattle.workspace.specs.Standing.{reachIn, abandonedIn}
 use Rattle.entry.specs.Regions.{pocketOf}
 use Rattle.start.specs.Start.{insideOf, addRegions, stockOf, wallsOf, flag, clearAt, allowedOf, reachOf}
@@ -84,7 +84,7 @@ pub record Reached (s : Setup) (vs : List Float) (lens b b′ : List ℕ) (w′ 
   pub abandoned : abandonedIn (cellsOf s) b′ ≡ abandonedIn (cellsOf s) b
   pub dirty : dirtyIn (cellsOf s) b′ ≡ dirtyIn (cellsOf s) b
 
--- the rim's directions stand, and the wall distances as before
-pub record Rimmed (s : Setup) (w w′ : List Float) : Type 0 where
-  pub rim : Rim (samplesOf (s .samples)) (rimIn s w′)
+-- the tool's tables stand, and the wall distances as before
+pub record Tabled (s : Setup) (w w′ : List Float) : Type 0 where
+  pub tables : Tables s (tablesIn s w′)
   pub wall : wallIn s w′ ≡ wallIn s w

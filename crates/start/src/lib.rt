@@ -1,5 +1,5 @@
 // What planning starts from (adaptive.rs of the Rust, `Planner::new`): the stock, the wall distances, where
-// the tool may go, what it can reach, and the directions of its rim, in the lent workspace.
+// the tool may go, what it can reach, and its tables, in the lent workspace.
 ghost use mathlib.Core.Path.{_≡_};
 ghost use Prim.Native.Nat.{_≤_};
 ghost use lib.ListN.{length};
@@ -14,8 +14,8 @@ use setup::Setup;
 mod allowed;
 mod reach;
 pub mod ready;
-mod rim;
 mod stock;
+mod tables;
 mod walls;
 
 // Fills the workspace for the first round; it may hold anything before. The vertices' coordinates, the
@@ -43,6 +43,6 @@ pub fn fill(
     let pocket = s.region;
     stock::stock(g, whole, vs, lens, regions, pocket, b, w);
     reach::reach(s, vs, lens, b, u, w);
-    rim::rim(s, w);
-    rim::clear_log(g, u);
+    tables::tables(s, w);
+    tables::clear_log(g, u);
 }

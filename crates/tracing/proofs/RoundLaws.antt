@@ -1,69 +1,42 @@
 -- A round that is traced, from what its steps left in the workspace. Assumes nothing.
 use mathlib.Core.Path.{_≡_, refl, sym, ap, _∙_, subst}
-use mathlib.Core.Bool.{Bool, cond}
+use mathlib.Core.Bool.{Bool}
 use mathlib.Core.List.{List, map}
 use Prim.Native.Nat.{ℕ, _+_, _-_, _*_, _≤_, _<_, max}
 use native.Mathlib.Omega.{arith}
 use native.Mathlib.Nat.{mul-le-mul-right}
 use lib.ListN.{length, take, drop, replicate, length-replicate}
 use lib.Ieee.{Float}
-use Rattle.loops.specs.Loop.{loop}
-use Rattle.loops.specs.Regions.{Fits, within}
+use Rattle.loops.specs.Regions.{Fits}
 use Rattle.loops.specs.Frame.{Only}
-use Rattle.loops.proofs.Cases.{by-test}
 use Rattle.loops.proofs.LoopLaws.{loop-end}
-use Rattle.loops.proofs.RegionLaws.{region-long}
-use Rattle.loops.proofs.FrameLaws.{only-fits, only-more, only-before, only-after, only-wider}
+use Rattle.loops.proofs.FrameLaws.{only-more, only-before, only-after, only-wider}
 use Rattle.raster.specs.Contact.{samplesOf}
 use Rattle.raster.specs.Grid.{Sides}
-use Rattle.setup.specs.Layout.{most, run, mapIn, dirtyIn, logIn, dirtyPut, fieldPut, marksFrom, segmentsFrom, rowsFrom, logFrom, tracedFrom, guideFrom, rimFrom}
+use Rattle.setup.specs.Layout.{most, run, logIn, fieldPut, rowsFrom, logFrom, tracedFrom, guideFrom}
 use Rattle.setup.specs.Place.{cellsOf}
 use Rattle.setup.specs.declared.Setup.{Setup}
 use Rattle.setup.proofs.LayoutLaws.{run-put, run-other}
 use Rattle.setup.proofs.PartLaws.{part-is, run-long, put-run-long}
 use Rattle.field.specs.Field.{Sensed, fieldRow, fieldRows, fieldOf}
-use Rattle.field.specs.Round.{Ready, Done, stockPut, nearPut, roundOf}
+use Rattle.field.specs.Round.{Ready, Done, roundOf}
 use Rattle.field.proofs.FieldLaws.{Swept, rows-run, field-length}
-use Rattle.field.proofs.RoundLaws.{wide-cells}
-use Rattle.field.proofs.DoneLaws.{squares-behind, field-of-map}
 use Rattle.pieces.specs.Piece.{Piece, Laid}
 use Rattle.contours.specs.Curve.{contoursOf}
 use Rattle.smoothing.specs.Smooth.{smoothed}
-use Rattle.workspace.specs.Standing.{abandonedIn, reachIn, CellsKept, WallsKept}
+use Rattle.workspace.specs.Standing.{WallsKept}
 use Rattle.workspace.specs.Lies.{rowsIn, tracedIn, piecesIn, Lying, Lies}
 use Rattle.tracing.specs.Curves.{Room, Laying, Beside}
-use Rattle.tracing.specs.Round.{sensedOf, sensedIn, levelOf, curvesOf, workOf, Sensing, TracedRound}
+use Rattle.tracing.specs.Round.{sensedOf, sensedIn, levelOf, curvesOf, workOf, TracedRound}
 use Rattle.tracing.specs.declared.round.Traced.{Traced}
 
 -- ---- the field
 
 module _ (s : Setup) (all : Bool) (b u : List ℕ) (w f : List Float) (h : Ready s b u w f) where
-  -- the squares are written before the log
-  stock-log : logIn (cellsOf s) (stockPut (s .grid) b u) ≡ logIn (cellsOf s) u
-  unfolding stockPut
-  stock-log = squares-behind (s .grid) 0 0 b u (omega (arith, h .lent .words, wide-cells (s .grid) (h .sides))) (24 * cellsOf s) (24 * cellsOf s + cellsOf s) (omega (arith, wide-cells (s .grid) (h .sides)))
-
-  near-log : (u₁ : List ℕ) → length u₁ ≡ length u → logIn (cellsOf s) (nearPut (s .grid) b u₁) ≡ logIn (cellsOf s) u₁
-  unfolding nearPut
-  near-log u₁ l =
-      squares-behind (s .grid) (4 * cellsOf s) (1 * cellsOf s) b u₁ (omega (arith, l, h .lent .words, wide-cells (s .grid) (h .sides))) (24 * cellsOf s) (24 * cellsOf s + cellsOf s)
-      (omega (arith, wide-cells (s .grid) (h .sides)))
-
-  begun-log : (u₁ : List ℕ) → length u₁ ≡ length u → logIn (cellsOf s) (cond all u₁ (nearPut (s .grid) b u₁)) ≡ logIn (cellsOf s) u₁
-  begun-log u₁ l = by-test (λ (q : List ℕ). logIn (cellsOf s) q ≡ logIn (cellsOf s) u₁) all _ _ (λ e. refl) (λ e. near-log u₁ l)
-
-  pub sensed-is : (u₁ : List ℕ) (r : ℕ) (b′ u′ : List ℕ) (f′ : List Float) → u₁ ≡ stockPut (s .grid) b u → length u₁ ≡ length u → Done s all b u₁ f r b′ u′ f′ → length u′ ≡ length u → Sensing s all b u f r b′ u′ f′
-  unfolding sensedOf
-  sensed-is u₁ r b′ u′ f′ e k d l =
-      let x : roundOf s all b u₁ f ≡ sensedIn s all b f =
-      ap (λ (q : List ℕ). roundOf s all b q f) e ∙ field-of-map s all b u f (h .sides) (omega (arith, h .lent .words)) in
-      record {
-        sampled = d .sampled ∙ ap (λ (q : Sensed). q .sampled) x;
-        singles = d .singles ∙ ap (λ (q : Sensed). fieldPut (cellsOf s) (q .field) f) x;
-        bytes = d .bytes;
-        log = ap (logIn (cellsOf s)) (d .words) ∙ begun-log u₁ k ∙ ap (logIn (cellsOf s)) e ∙ stock-log;
-        words-long = l;
-      }
+  -- the round's field is the one that is sensed
+  round-sensed : roundOf s all b f ≡ sensedIn s all b f
+  unfolding roundOf sensedOf
+  round-sensed = refl
 
   field-long : length (sensedIn s all b f .field) ≡ cellsOf s
   unfolding sensedOf
@@ -75,7 +48,7 @@ module _ (s : Setup) (all : Bool) (b u : List ℕ) (w f : List Float) (h : Ready
   swept-few m allowed stock near t z =
       let k = max 1 (s .grid .ny - 1) in
       let e = loop-end (fieldRow s all m allowed stock near) 1 k (s .grid .ny - 1) t (omega arith) (omega arith) (omega arith) in
-      let q = subst (Swept (length (t .field)) (k * s .grid .nx)) e (rows-run s all m allowed stock near (length (t .field)) k t (h .sides .wide) (omega arith) (record { long = refl; few = omega arith })) in
+      let q = subst (Swept (length (t .field)) (k * s .grid .nx)) e (rows-run s all m allowed stock near (length (t .field)) 1 k t (h .sides .wide) (omega arith) (record { long = refl; few = omega arith })) in
       omega (arith, q .few, mul-le-mul-right (s .grid .nx) (let y : k ≤ s .grid .ny = omega (arith, h .sides .high) in y))
 
   sampled-few : sensedIn s all b f .sampled ≤ cellsOf s
@@ -83,15 +56,13 @@ module _ (s : Setup) (all : Bool) (b u : List ℕ) (w f : List Float) (h : Ready
   sampled-few = swept-few _ _ _ _ _ refl
 
   samples-few : s .samples ≤ 2048
-  unfolding samplesOf within
-  samples-few =
-      let n = cellsOf s in
-      omega (arith, h .table .long, region-long (rimFrom n) (rimFrom n + 4096) w (record { start = omega arith; end = omega (arith, h .lent .doubles) }))
+  unfolding samplesOf
+  samples-few = omega (arith, h .tables .rims .few)
 
   -- the work fits a machine word
-  pub work-fits : (r : ℕ) → r ≡ sensedIn s all b f .sampled → r * s .samples ≤ 2147483648
+  pub work-fits : (r : ℕ) → r ≡ roundOf s all b f .sampled → r * s .samples ≤ 2147483648
   work-fits r e =
-      let few : r ≤ 1048576 = omega (arith, e, sampled-few, h .sides .cells) in
+      let few : r ≤ 1048576 = omega (arith, e, ap (λ (q : Sensed). q .sampled) round-sensed, sampled-few, h .sides .cells) in
       omega (arith, mul-le-mul-right (s .samples) few, samples-few)
 
 -- ---- its curves
@@ -154,11 +125,18 @@ module _ (n : ℕ) (b u : List ℕ) (w : List Float) (R : Room n b u w) (b′ u�
   beside-log = only-after (15 * n) (24 * n) u (record { start = omega arith; end = omega (arith, R .words) }) u′ (B .words) (24 * n) (24 * n + n) (omega arith)
 
   pub beside-walls : WallsKept n w w′
-  beside-walls = only-wider (1 * n) (5 * n) w w′ (record { start = omega arith; end = omega (arith, R .doubles) }) (B .doubles) (1 * n) (32 * n) (omega arith) (omega arith) (omega (arith, R .doubles))
+  beside-walls = only-wider (1 * n) (5 * n) w w′ (record { start = omega arith; end = omega (arith, R .doubles) }) (B .doubles) (1 * n) (24 * n) (omega arith) (omega arith) (omega (arith, R .doubles))
 
 -- ---- the round
 
-module _ (s : Setup) (all : Bool) (b u : List ℕ) (f w : List Float) (h : Ready s b u w f) (r : ℕ) (b₁ u₁ : List ℕ) (f₁ : List Float) (X : Sensing s all b u f r b₁ u₁ f₁) where
+module _ (s : Setup) (all : Bool) (b u : List ℕ) (f w : List Float) (h : Ready s b u w f) (r : ℕ) (b₁ u₁ : List ℕ) (f₁ : List Float) (D : Done s all b u f r b₁ u₁ f₁) where
+  singles : f₁ ≡ fieldPut (cellsOf s) (sensedIn s all b f .field) f
+  singles = D .singles ∙ ap (λ (q : Sensed). fieldPut (cellsOf s) (q .field) f) (round-sensed s all b u w f h)
+
+  -- the squares lie before the log
+  log-kept : logIn (cellsOf s) u₁ ≡ logIn (cellsOf s) u
+  log-kept = only-after (0 * cellsOf s) (5 * cellsOf s) u (record { start = omega arith; end = omega (arith, h .lent .words) }) u₁ (D .words) (24 * cellsOf s) (24 * cellsOf s + cellsOf s) (omega arith)
+
   zeroed : length {A = ℕ} (replicate (cellsOf s) 0) ≡ cellsOf s
   zeroed = length-replicate (cellsOf s) 0
 
@@ -166,20 +144,20 @@ module _ (s : Setup) (all : Bool) (b u : List ℕ) (f w : List Float) (h : Ready
   fits-dirty = omega (arith, h .lent .bytes)
 
   bytes-long : length b₁ ≡ length b
-  bytes-long = ap length (X .bytes) ∙ put-run-long 4 (cellsOf s) b (replicate (cellsOf s) 0) fits-dirty zeroed
+  bytes-long = ap length (D .bytes) ∙ put-run-long 4 (cellsOf s) b (replicate (cellsOf s) 0) fits-dirty zeroed
 
   -- what the curves' step asks for
   pub round-room : Room (cellsOf s) b₁ u₁ w
-  round-room = record { bytes = omega (arith, h .lent .bytes, bytes-long); words = omega (arith, h .lent .words, X .words-long); doubles = h .lent .doubles }
+  round-room = record { bytes = omega (arith, h .lent .bytes, bytes-long); words = omega (arith, h .lent .words, D .words .long); doubles = h .lent .doubles }
 
   other : (j : ℕ) → (j ≡ 4 → ⊥) → run j (cellsOf s) b₁ ≡ run j (cellsOf s) b
-  other j d = ap (run j (cellsOf s)) (X .bytes) ∙ run-other (cellsOf s) b (replicate (cellsOf s) 0) zeroed 4 j fits-dirty d
+  other j d = ap (run j (cellsOf s)) (D .bytes) ∙ run-other (cellsOf s) b (replicate (cellsOf s) 0) zeroed 4 j fits-dirty d
 
   field-now : run 0 (cellsOf s) f₁ ≡ sensedIn s all b f .field
-  field-now = ap (run 0 (cellsOf s)) (X .singles) ∙ run-put (cellsOf s) f (sensedIn s all b f .field) (field-long s all b u w f h) 0 (omega (arith, h .lent .singles))
+  field-now = ap (run 0 (cellsOf s)) singles ∙ run-put (cellsOf s) f (sensedIn s all b f .field) (field-long s all b u w f h) 0 (omega (arith, h .lent .singles))
 
   field-size : length f₁ ≡ length f
-  field-size = ap length (X .singles) ∙ put-run-long 0 (cellsOf s) f (sensedIn s all b f .field) (omega (arith, h .lent .singles)) (field-long s all b u w f h)
+  field-size = ap length singles ∙ put-run-long 0 (cellsOf s) f (sensedIn s all b f .field) (omega (arith, h .lent .singles)) (field-long s all b u w f h)
 
   pub field-room : cellsOf s ≤ length f₁
   field-room = omega (arith, field-size, h .lent .singles)
@@ -193,15 +171,15 @@ module _ (s : Setup) (all : Bool) (b u : List ℕ) (f w : List Float) (h : Ready
       let same : (j : ℕ) → j < 4 → run j n b₂ ≡ run j n b = λ j l. beside-run n b₁ u₁ w R b₂ u₂ w₂ B j (omega arith) ∙ other j (λ e. omega arith) in
       record {
         lies = subst (λ (k : ℕ). Lies n (curvesOf s (sensedIn s all b f .field)) k u₂ w₂) (sym P) (subst (λ (q : List Float). Lies n (curvesOf s q) m u₂ w₂) field-now L);
-        work = W ∙ ap (λ (k : ℕ). k * s .samples) (X .sampled);
+        work = W ∙ ap (λ (k : ℕ). k * s .samples) (D .sampled ∙ ap (λ (q : Sensed). q .sampled) (round-sensed s all b u w f h));
         field = field-now;
         map = same 0 (omega arith);
-        dirty = beside-run n b₁ u₁ w R b₂ u₂ w₂ B 4 (omega arith) ∙ ap (run 4 n) (X .bytes) ∙ run-put n b (replicate n 0) zeroed 4 fits-dirty;
+        dirty = beside-run n b₁ u₁ w R b₂ u₂ w₂ B 4 (omega arith) ∙ ap (run 4 n) (D .bytes) ∙ run-put n b (replicate n 0) zeroed 4 fits-dirty;
         abandoned = same 3 (omega arith);
         cells = record { long = B .bytes .long ∙ bytes-long; allowed = same 1 (omega arith); reach = same 2 (omega arith) };
         log =
-            beside-log n b₁ u₁ w R b₂ u₂ w₂ B ∙ X .log;
-        words-long = B .words .long ∙ X .words-long;
+            beside-log n b₁ u₁ w R b₂ u₂ w₂ B ∙ log-kept;
+        words-long = B .words .long ∙ D .words .long;
         singles-long = field-size;
         walls = beside-walls n b₁ u₁ w R b₂ u₂ w₂ B;
       }

@@ -8,7 +8,7 @@ use lib.Ieee.{Float, binary64, mul}
 use Rattle.numbers.specs.Narrow.{narrowOf}
 use Rattle.numbers.specs.Small.{f2}
 use Rattle.distance.specs.Nearest.{squaresOf}
-use Rattle.setup.specs.Layout.{run, mapIn, allowedIn, dirtyIn, logIn, dirtyPut, fieldPut}
+use Rattle.setup.specs.Layout.{run, mapIn, allowedIn, dirtyIn, logIn}
 use Rattle.setup.specs.Place.{cellsOf}
 use Rattle.setup.specs.declared.Setup.{Setup}
 use Rattle.field.specs.Field.{Sensed, fieldOf}
@@ -35,14 +35,6 @@ curvesOf s f = map (smoothed (s .grid .cell)) (contoursOf (s .grid) f (levelOf s
 
 abbrev pub sensedIn : Setup → Bool → List ℕ → List Float → Sensed
 sensedIn s all b f = let n = cellsOf s in sensedOf s all (mapIn n b) (allowedIn n b) (dirtyIn n b) (run 0 n f)
-
--- the field is worked out, and no cell is dirty any more
-pub record Sensing (s : Setup) (all : Bool) (b u : List ℕ) (f : List Float) (r : ℕ) (b′ u′ : List ℕ) (f′ : List Float) : Type 0 where
-  pub sampled : r ≡ sensedIn s all b f .sampled
-  pub singles : f′ ≡ fieldPut (cellsOf s) (sensedIn s all b f .field) f
-  pub bytes : b′ ≡ dirtyPut (cellsOf s) (replicate (cellsOf s) 0) b
-  pub log : logIn (cellsOf s) u′ ≡ logIn (cellsOf s) u
-  pub words-long : length u′ ≡ length u
 
 -- self.work += self.samples of each cell that was sampled
 unfoldable pub workOf : Setup → ℕ → ℕ

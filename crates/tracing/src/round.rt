@@ -8,7 +8,7 @@ ghost use Rattle.setup.specs.Place.{cellsOf};
 ghost use Rattle.field.specs.Round.{Ready};
 ghost use Rattle.workspace.specs.Lies.{Lies};
 ghost use Rattle.tracing.specs.Curves.{Room, Beside};
-ghost use Rattle.tracing.specs.Round.{levelOf, curvesOf, Sensing, TracedRound};
+ghost use Rattle.tracing.specs.Round.{levelOf, curvesOf, TracedRound};
 use super::curves::smooth;
 use super::curves::trace;
 use setup::Setup;
@@ -18,16 +18,6 @@ use setup::layout;
 pub struct Traced {
     pub pieces: usize,
     pub work: usize,
-}
-
-// The field of a round; how many cells were sampled.
-fn sense(s: Setup, all: bool, b: &mut [u8], u: &mut [u32], f: &mut [f32], w: &[f64]) -> usize
-    requires { ⌜ Ready s (now b) (now u) (now w) (now f) ⌝ }
-    ensures { λ r. ⌜ Sensing s all (now (b .entry)) (now (u .entry)) (now (f .entry)) r (now (b .exit)) (now (u .exit)) (now (f .exit)) ⌝ }
-{
-    let g = s.grid;
-    field::round::stock_squares(g, b, u);
-    field::round::field(s, all, b, u, w, f)
 }
 
 // The level that passes are traced at.
@@ -65,7 +55,7 @@ pub fn trace_round(
     requires { ⌜ Ready s (now b) (now u) (now w) (now f) ⌝ }
     ensures { λ r. ⌜ TracedRound s all (now (b .entry)) (now (u .entry)) (now (f .entry)) (now (w .entry)) r (now (b .exit)) (now (u .exit)) (now (f .exit)) (now (w .exit)) ⌝ }
 {
-    let sampled = sense(s, all, b, u, f, w);
+    let sampled = field::round::field(s, all, b, u, w, f);
     let pieces = curves(s, f, b, u, w);
     Traced {
         pieces,

@@ -9,14 +9,14 @@ use Rattle.loops.specs.Regions.{Fits, within}
 use Rattle.loops.specs.Frame.{Only}
 use Rattle.loops.proofs.RegionLaws.{region-long}
 use Rattle.loops.proofs.FrameLaws.{only-same, only-more, only-before, only-after, only-wider}
-use Rattle.raster.specs.Contact.{samplesOf, Rim}
 use Rattle.raster.specs.Grid.{Over}
 use Rattle.setup.specs.Layout.{mapIn, tracedFrom, rimFrom, Lent}
 use Rattle.setup.specs.Place.{cellsOf, Walls}
+use Rattle.setup.specs.Tables.{Tables}
 use Rattle.setup.specs.declared.Setup.{Setup}
 use Rattle.setup.proofs.PartLaws.{run-long}
 use Rattle.field.specs.Round.{Ready}
-use Rattle.links.specs.Path.{wallIn, rimIn, Fitted}
+use Rattle.links.specs.Path.{wallIn, tablesIn, Fitted}
 use Rattle.workspace.specs.Standing.{Standing, CellsKept, WallsKept}
 
 -- ---- what the layers ask for
@@ -40,13 +40,13 @@ module _ (s : Setup) (vs : List Float) (lens b u : List ℕ) (w : List Float) (h
   standing-fitted = record {
     walls = standing-walls;
     over = record { sides = h .sides; long = omega (arith, map-long) };
-    rim = h .table;
+    tables = h .tables;
     long = omega (arith, h .doubles);
   }
 
   -- the field's
   pub standing-ready : (f : List Float) → 2 * cellsOf s ≤ length f → Ready s b u w f
-  standing-ready f l = record { sides = h .sides; lent = record { bytes = h .bytes; words = h .words; singles = l; doubles = h .doubles }; table = h .table }
+  standing-ready f l = record { sides = h .sides; lent = record { bytes = h .bytes; words = h .words; singles = l; doubles = h .doubles }; tables = h .tables }
 
   pub walls-fit : Fits (tracedFrom (cellsOf s)) (rimFrom (cellsOf s)) w
   walls-fit = record { start = omega arith; end = omega (arith, h .doubles) }
@@ -57,8 +57,8 @@ module _ (s : Setup) (vs : List Float) (lens b u : List ℕ) (w : List Float) (h
     pub wall-kept : wallIn s w′ ≡ wallIn s w
     wall-kept = only-before (tracedFrom (cellsOf s)) (rimFrom (cellsOf s)) w walls-fit w′ k 0 (cellsOf s) (omega arith) (omega arith)
 
-    rim-kept : rimIn s w′ ≡ rimIn s w
-    rim-kept = only-after (tracedFrom (cellsOf s)) (rimFrom (cellsOf s)) w walls-fit w′ k _ _ (omega arith)
+    tables-kept : tablesIn s w′ ≡ tablesIn s w
+    tables-kept = only-after (tracedFrom (cellsOf s)) (rimFrom (cellsOf s)) w walls-fit w′ k _ _ (omega arith)
 
     pub standing-kept : (b′ u′ : List ℕ) → length b′ ≡ length b → length u′ ≡ length u → Standing s vs lens b′ u′ w′
     standing-kept b′ u′ p q = record {
@@ -68,7 +68,7 @@ module _ (s : Setup) (vs : List Float) (lens b u : List ℕ) (w : List Float) (h
       doubles = omega (arith, h .doubles, k .long);
       held = h .held;
       bound = h .bound;
-      table = subst (Rim (samplesOf (s .samples))) (sym rim-kept) (h .table);
+      tables = subst (Tables s) (sym tables-kept) (h .tables);
     }
 
     pub walls-more : (w″ : List Float) → WallsKept (cellsOf s) w′ w″ → WallsKept (cellsOf s) w w″
@@ -77,7 +77,7 @@ module _ (s : Setup) (vs : List Float) (lens b u : List ℕ) (w : List Float) (h
   pub walls-same : WallsKept (cellsOf s) w w
   walls-same = only-same (tracedFrom (cellsOf s)) (rimFrom (cellsOf s)) w walls-fit
 
-  -- a region between the traced points and the rim's directions was written
+  -- a region between the traced points and the tool's tables was written
   pub walls-of : (a e : ℕ) (w′ : List Float) → tracedFrom (cellsOf s) ≤ a → a ≤ e → e ≤ rimFrom (cellsOf s) → Only a e w w′ → WallsKept (cellsOf s) w w′
   walls-of a e w′ p q r o = only-wider a e w w′ (record { start = q; end = omega (arith, h .doubles) }) o (tracedFrom (cellsOf s)) (rimFrom (cellsOf s)) p r (omega (arith, h .doubles))
 

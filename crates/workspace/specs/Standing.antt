@@ -8,11 +8,11 @@ use Rattle.loops.specs.Frame.{Only}
 use Rattle.numbers.specs.Bound.{Bounds}
 use Rattle.geom.specs.Region.{Held}
 use Rattle.raster.specs.Grid.{Sides}
-use Rattle.raster.specs.Contact.{samplesOf, Rim}
 use Rattle.setup.specs.Layout.{run, putRun, allowedIn, tracedFrom, rimFrom}
 use Rattle.setup.specs.Place.{cellsOf}
 use Rattle.setup.specs.declared.Setup.{Setup}
-use Rattle.links.specs.Path.{rimIn}
+use Rattle.setup.specs.Tables.{Tables}
+use Rattle.links.specs.Path.{tablesIn}
 
 -- ---- regions of the bytes that only planning reads
 
@@ -29,7 +29,7 @@ abandonedPut n a b = putRun 3 n a b
 
 -- ---- what every step finds
 
--- the slices are lent for the raster's cells, the region's loops are held, and the rim's directions stand where they belong
+-- the slices are lent for the raster's cells, the region's loops are held, and the tool's tables stand where they belong
 pub record Standing (s : Setup) (vs : List Float) (lens b u : List ℕ) (w : List Float) : Type 0 where
   pub sides : Sides (s .grid)
   pub bytes : 8 * cellsOf s ≤ length b
@@ -37,7 +37,7 @@ pub record Standing (s : Setup) (vs : List Float) (lens b u : List ℕ) (w : Lis
   pub doubles : 32 * cellsOf s + 8192 ≤ length w
   pub held : Held vs lens (s .region)
   pub bound : Bounds (s .keep) (s .bound)
-  pub table : Rim (samplesOf (s .samples)) (rimIn s w)
+  pub tables : Tables s (tablesIn s w)
 
 -- ---- what a step leaves alone
 
@@ -47,6 +47,6 @@ pub record CellsKept (n : ℕ) (b b′ : List ℕ) : Type 0 where
   pub allowed : allowedIn n b′ ≡ allowedIn n b
   pub reach : reachIn n b′ ≡ reachIn n b
 
--- of the f64: the wall distances before the traced points, and the rim's directions behind the path
+-- of the f64: the wall distances before the traced points, and the tool's tables behind the path
 abbrev pub WallsKept : ℕ → List Float → List Float → Type 0
 WallsKept n w w′ = Only (tracedFrom n) (rimFrom n) w w′

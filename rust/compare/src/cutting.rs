@@ -2,7 +2,7 @@
 //! a planner, the lent rows and triples, and the state that planning holds by value.
 use crate::geom::Lent;
 use crate::planners::sided;
-use crate::raster::fill_rim;
+use crate::setup::fill_tables;
 use oracle::planner::{Piece, Planner};
 use oracle::vec2::{Vec2, v2};
 
@@ -93,13 +93,13 @@ pub struct Cutting {
 }
 
 impl Cutting {
-    /// A workspace with the planner's walls and rim, and room for rows and triples, of which none is listed.
+    /// A workspace with the planner's walls and tables, and room for rows and triples, of which none is listed.
     pub fn new(p: &Planner, room: Room) -> Cutting {
         sided(p);
         let n = p.nx * p.ny;
         let mut w = vec![-1e300; 32 * n + 8192];
         w[..n].copy_from_slice(&p.wall_dist);
-        fill_rim(&mut w[32 * n..32 * n + 4096], p.samples.max(8));
+        fill_tables(p, p.r_guard, &mut w[24 * n..]);
         Cutting {
             n,
             b: vec![7; 8 * n],

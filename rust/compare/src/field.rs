@@ -1,7 +1,6 @@
 //! The field of the layer `field`, with what it requires as assertions.
-use crate::distance::transform;
 use crate::planners::sided;
-use crate::raster::fill_rim;
+use crate::setup::fill_tables;
 use oracle::planner::Planner;
 
 mod linked {
@@ -42,11 +41,11 @@ impl Rounds {
         sided(p);
         let n = p.nx * p.ny;
         let mut w = vec![-1e300; 32 * n + 8192];
-        fill_rim(&mut w[32 * n..32 * n + 4096], p.samples.max(8));
+        fill_tables(p, 0.0, &mut w[24 * n..]);
         Rounds { b: vec![7; 8 * n], u: vec![7; 32 * n + 8192], f: vec![7.0; 2 * n], w }
     }
 
-    /// Takes over the map, the allowed and the dirty cells, and the squares of the distance to stock.
+    /// Takes over the map, the allowed and the dirty cells.
     pub fn take(&mut self, p: &Planner) {
         let n = p.nx * p.ny;
         for (region, cells) in [(0, &p.m.data), (1, &p.allowed), (4, &p.dirty)] {
@@ -54,7 +53,6 @@ impl Rounds {
                 *byte = cell as u8;
             }
         }
-        transform(&self.b[..n], 1, p.nx, p.ny, &mut self.u[..n + 3 * p.nx]);
     }
 
     /// The field of what was taken over; how many cells were sampled.

@@ -2,7 +2,7 @@
 //! heap's slices are changed by `push` and `pop` alone, and a workspace is filled from a planner.
 use crate::geom::Lent;
 use crate::planners::sided;
-use crate::raster::fill_rim;
+use crate::setup::fill_tables;
 use oracle::planner::Planner;
 use oracle::vec2::{Vec2, v2};
 
@@ -138,7 +138,7 @@ impl Ways {
         let n = p.nx * p.ny;
         let mut w = vec![-1e300; 32 * n + 8192];
         w[..n].copy_from_slice(&p.wall_dist);
-        fill_rim(&mut w[32 * n..32 * n + 4096], p.samples.max(8));
+        fill_tables(p, 0.0, &mut w[24 * n..]);
         Ways { u: vec![7; 32 * n + 8192], w, allowed: p.allowed.iter().map(|&a| a as u8).collect() }
     }
 

@@ -1,7 +1,7 @@
 //! A pass tried by the layer `passes`, with what it requires as assertions.
 use crate::geom::Lent;
 use crate::planners::sided;
-use crate::raster::fill_rim;
+use crate::setup::Tables;
 use oracle::planner::Planner;
 use oracle::vec2::{Vec2, v2};
 
@@ -28,8 +28,8 @@ mod linked {
             target: f64,
             guard: f64,
             samples: usize,
-            rim: *const f64,
-            rim_len: usize,
+            tables: *const f64,
+            tables_len: usize,
             guide: *const f64,
             guide_len: usize,
             map: *mut u8,
@@ -49,7 +49,7 @@ mod linked {
 pub struct Trials {
     pub map: Vec<u8>,
     log: Vec<u32>,
-    rim: Vec<f64>,
+    tables: Tables,
     triples: Vec<f64>,
 }
 
@@ -64,10 +64,8 @@ pub struct Trial {
 impl Trials {
     pub fn new(p: &Planner, triples: usize) -> Trials {
         sided(p);
-        let mut rim = vec![0.0; 4096];
-        fill_rim(&mut rim, p.samples.max(8));
         let map: Vec<u8> = p.m.data.iter().map(|&b| b as u8).collect();
-        Trials { log: vec![7; map.len()], map, rim, triples: vec![-1e300; 3 * triples] }
+        Trials { log: vec![7; map.len()], map, tables: Tables::new(p, p.r_guard), triples: vec![-1e300; 3 * triples] }
     }
 
     /// `simulate` of the fields that a planner has, behind `kept` triples.
@@ -100,8 +98,8 @@ impl Trials {
                 p.target,
                 p.guard,
                 p.samples,
-                self.rim.as_ptr(),
-                self.rim.len(),
+                self.tables.0.as_ptr(),
+                self.tables.0.len(),
                 guide.as_ptr(),
                 guide.len(),
                 self.map.as_mut_ptr(),

@@ -101,7 +101,6 @@ mod linked {
             log_len: usize,
             count: usize,
         );
-        pub fn raster_fill_rim(rim: *mut f64, rim_len: usize, n: usize);
         pub fn raster_engagement(
             ox: f64,
             oy: f64,
@@ -145,12 +144,6 @@ pub fn new(lo: Vec2, hi: Vec2, cell: f64, margin: f64) -> Result<(Vec2, usize, u
         return Err(k);
     }
     Ok((v2(out[0], out[1]), (k & 0xffff_ffff) as usize, (k >> 32) as usize))
-}
-
-/// Fills the table of n directions.
-pub fn fill_rim(rim: &mut [f64], n: usize) {
-    assert!(2 * n <= rim.len());
-    unsafe { linked::raster_fill_rim(rim.as_mut_ptr(), rim.len(), n) }
 }
 
 /// A grid with its lent map and log.

@@ -7,8 +7,11 @@ use std::cell::{Cell, UnsafeCell};
 use std::ffi::c_void;
 use std::ops::Range;
 
-/// The planner, and what it calls to cut a piece.
-pub const FRAMES: [&str; 2] = ["pocket_adaptive_clear", "rounds::round::cut_next"];
+/// What a caller of the planner calls.
+const ENTRY: &str = "pocket_adaptive_clear";
+
+/// What the compiler has put the rounds of a plan into, and what it calls to cut a piece.
+pub const FRAMES: [&str; 2] = ["planner::outcome::plan_fit", "rounds::round::cut_next"];
 
 /// Most samples that are kept, and the time between two.
 const MOST: usize = 200_000;
@@ -114,7 +117,7 @@ pub type Met = Vec<(String, [String; 2])>;
 
 /// Runs the work, in which the thread calls the planner once; what was met.
 pub fn sampled(work: impl FnOnce()) -> Met {
-    let Some(symbols) = Symbols::new(FRAMES[0], planner::entry()) else { return Met::new() };
+    let Some(symbols) = Symbols::new(ENTRY, planner::entry()) else { return Met::new() };
     let ranges = FRAMES.map(|name| symbols.range(name).unwrap_or(0..0));
     let called = |back: usize| {
         if back == 0 {

@@ -1,5 +1,6 @@
 //! The functions of the layer `setup` and the straight link, with what they require as assertions.
 use crate::geom::Lent;
+use crate::planners::sided;
 use oracle::planner::Planner;
 use oracle::vec2::Vec2;
 
@@ -27,6 +28,18 @@ mod linked {
             x: f64,
             y: f64,
         ) -> bool;
+        pub fn setup_fill_tables(
+            ox: f64,
+            oy: f64,
+            cell: f64,
+            nx: usize,
+            ny: usize,
+            r: f64,
+            wide: f64,
+            samples: usize,
+            w: *mut f64,
+            w_len: usize,
+        );
         pub fn links_link_clear(
             ox: f64,
             oy: f64,
@@ -47,8 +60,8 @@ mod linked {
             samples: usize,
             map: *const u8,
             map_len: usize,
-            rim: *mut f64,
-            rim_len: usize,
+            tables: *const f64,
+            tables_len: usize,
             ax: f64,
             ay: f64,
             bx: f64,
@@ -90,12 +103,31 @@ pub fn allowed_at(p: &Planner, lent: &Lent, q: Vec2) -> bool {
     }
 }
 
+/// Fills the tool's tables of a planner, with those of a rim of radius `wide`, into the f64 of a workspace.
+pub fn fill_tables(p: &Planner, wide: f64, w: &mut [f64]) {
+    sided(p);
+    assert!(p.samples <= 2048 && w.len() >= 8192);
+    let o = p.m.origin;
+    unsafe { linked::setup_fill_tables(o.x, o.y, p.cell, p.nx, p.ny, p.r, wide, p.samples, w.as_mut_ptr(), w.len()) }
+}
+
+/// The tool's tables of a planner.
+pub struct Tables(pub Vec<f64>);
+
+impl Tables {
+    /// With those of a rim of radius `wide`, in as many floats as a workspace has for them.
+    pub fn new(p: &Planner, wide: f64) -> Tables {
+        let mut w = vec![-1e300; 8 * p.nx * p.ny + 8192];
+        fill_tables(p, wide, &mut w);
+        Tables(w)
+    }
+}
+
 /// `link_clear` of the fields that a planner has, with the map as bytes.
-pub fn link_clear(p: &Planner, lent: &Lent, map: &[u8], a: Vec2, b: Vec2) -> bool {
+pub fn link_clear(p: &Planner, lent: &Lent, tables: &Tables, map: &[u8], a: Vec2, b: Vec2) -> bool {
     over(p);
     lent.held();
     assert!(map.len() >= p.nx * p.ny);
-    let mut rim = vec![0.0; 2 * p.samples.max(8)];
     unsafe {
         linked::links_link_clear(
             p.m.origin.x,
@@ -117,8 +149,8 @@ pub fn link_clear(p: &Planner, lent: &Lent, map: &[u8], a: Vec2, b: Vec2) -> boo
             p.samples,
             map.as_ptr(),
             map.len(),
-            rim.as_mut_ptr(),
-            rim.len(),
+            tables.0.as_ptr(),
+            tables.0.len(),
             a.x,
             a.y,
             b.x,

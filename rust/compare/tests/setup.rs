@@ -49,6 +49,7 @@ fn straight_links() {
     let (mut yes, mut calls) = (0, 0);
     each(|r, p, lent| {
         let map: Vec<u8> = p.m.data.iter().map(|&b| b as u8).collect();
+        let tables = setup::Tables::new(p, 0.0);
         for _ in 0..150 {
             let a = point(r, p);
             // Short ways mostly: long ones are seldom clear.
@@ -58,7 +59,7 @@ fn straight_links() {
                 _ => a + v2(r.range(-1.0, 1.0), r.range(-1.0, 1.0)) * p.r,
             };
             let want = p.link_clear(a, b);
-            assert_eq!(setup::link_clear(p, lent, &map, a, b), want, "{a:?} {b:?}");
+            assert_eq!(setup::link_clear(p, lent, &tables, &map, a, b), want, "{a:?} {b:?}");
             yes += want as usize;
             calls += 1;
         }

@@ -22,8 +22,8 @@ reach-requires c κs =
       record { bytes = omega (arith, room .bytes, k .0); words = room .words; doubles = omega (arith, room .doubles, k .1 .0) },
     )
 
-rim-requires : tie.Need-rim-requires
-rim-requires c κs =
+tables-requires : tie.Need-tables-requires
+tables-requires c κs =
     let s = c .before .before .before .before .before .before .before .before .before .before .before .before .before .before .before .before .before .before .before .before .before .before .before .before .before .before in
     (s .pre .0, (s .pre .1 .1 .1 .1 .0, omega (arith, s .pre .1 .1 .1 .1 .1 .doubles, c .before .before .before .before .before .before .before .before .before .before .before .before .before .before .before .stock .kept .1 .1 .1 .1 .1 .1 .1 .0, c .before .before .before .before .before .before .before .reach .kept .1 .1 .1 .1 .1 .0)))
 
@@ -48,8 +48,8 @@ returns c =
     let l = c .before .before .before .before .before .before .before .before .before .before .before .before .before .before .reach .kept .1 .1 .1 in
     started-is (s .args .s) (s .args .whole) (s .args .vs .now) (s .args .lens .now) (s .args .regions .now) (s .args .b .now) (s .args .u .now) (s .args .w .now) (s .pre .0)
     (held-is (s .args .vs .now) (s .args .lens .now) (s .args .regions .now) (s .pre .1 .0) 0 (s .pre .1 .0 .some) _ (s .pre .1 .1 .0)) (s .pre .1 .1 .1 .0) (s .pre .1 .1 .1 .1 .1)
-    _ _ _ _ _ (c .before .before .before .before .before .before .before .before .before .before .before .before .before .before .before .before .before .before .before .before .before .before .stock .ensures) (c .before .before .before .before .before .before .before .before .before .before .before .before .before .before .reach .ensures) (c .before .before .before .before .before .before .rim .ensures) (c .before .before .clear-log .ensures)
-    (l .0 ∙ k .0) (c .before .before .clear-log .kept .1 .0 ∙ l .1 .0) (c .before .before .before .before .before .before .rim .kept .1 .0 ∙ l .1 .1 .0 ∙ k .1 .0)
+    _ _ _ _ _ (c .before .before .before .before .before .before .before .before .before .before .before .before .before .before .before .before .before .before .before .before .before .before .stock .ensures) (c .before .before .before .before .before .before .before .before .before .before .before .before .before .before .reach .ensures) (c .before .before .before .before .before .before .tables .ensures) (c .before .before .clear-log .ensures)
+    (l .0 ∙ k .0) (c .before .before .clear-log .kept .1 .0 ∙ l .1 .0) (c .before .before .before .before .before .before .tables .kept .1 .0 ∙ l .1 .1 .0 ∙ k .1 .0)
 
 pub fill-spec : {M : Type 1} → statement M
 fill-spec =
@@ -57,7 +57,7 @@ fill-spec =
     (tie.spec
     stock-requires
     reach-requires
-    rim-requires
+    tables-requires
     clear-log-requires
     same-length
     same-length-2

@@ -1,6 +1,6 @@
-//! Times the proved field, pieces and smoothing beside the oracle's, which has a table of rim directions
-//! too, on the larger jobs after some cuts: `cargo run --release --bin bench_contours`. The field has to
-//! take at most the oracle's time.
+//! Times the proved field with its distance to stock, pieces and smoothing beside the oracle's, which has a
+//! table of rim directions too, on the larger jobs after some cuts: `cargo run --release --bin
+//! bench_contours`. The field has to take at most the oracle's time.
 use compare::bits::Bits;
 use compare::contours::Space;
 use compare::field::Rounds;
@@ -13,7 +13,6 @@ fn main() {
     let (mut theirs, mut ours) = ([0.0; 3], [0.0; 3]);
     println!("job, ms of field, pieces, smoothing: the oracle's and the proved");
     each_large(|name, _, p, _| {
-        let dist = p.material_distance();
         let level = (2.0 * p.target) as f32;
         let mut mine = Rounds::new(p);
         mine.take(p);
@@ -23,6 +22,7 @@ fn main() {
         let want = [
             least(5, || {
                 p.all_dirty = true;
+                let dist = p.material_distance();
                 f = p.field(black_box(&dist));
             }),
             least(5, || made = p.contours(black_box(&f), level)),

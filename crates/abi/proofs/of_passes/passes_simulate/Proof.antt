@@ -1,7 +1,7 @@
 -- `abi::of_passes::passes_simulate` meets its contract. Assumes nothing.
 use native.Mathlib.Omega.{arith}
 use lib.ListN.{length-set}
-use Rattle.abi.proofs.PassLaws.{pass-walls, pass-rim, pass-usable, pass-by}
+use Rattle.abi.proofs.PassLaws.{pass-walls, pass-tables, pass-usable, pass-by}
 use borrow.Author.Needs.{needs}
 use Rattle.abi.proofs.of_passes.passes_simulate.Statement.{statement}
 use Rattle.abi.proofs.of_passes.passes_simulate.Tie as tie
@@ -13,7 +13,7 @@ simulate-requires : tie.Need-simulate-requires
 simulate-requires c κs =
     let p = c .before .before .before .before .before .before .before .before .before .before .before .before .before .pre in
     let m = c .before .before .before .passing .ensures in
-    (pass-walls _ _ _ _ _ _ _ _ _ (m .0) (m .1) _ _ _ (p .0), (pass-rim _ _ _ _ _ _ _ _ _ (m .0) (m .1) _ (p .1 .0), pass-usable _ _ _ _ _ _ _ _ _ (m .0) (m .1) _ _ _ (p .1 .1 .0)))
+    (pass-walls _ _ _ _ _ _ _ _ _ (m .0) (m .1) _ _ _ (p .0), (pass-tables _ _ _ _ _ _ _ _ _ (m .0) (m .1) _ (p .1 .0), pass-usable _ _ _ _ _ _ _ _ _ (m .0) (m .1) _ _ _ (p .1 .1 .0)))
 
 slice-write-out : tie.Need-slice-write-out
 slice-write-out c = omega (arith, c .before .before .before .before .before .before .before .before .before .before .before .before .before .before .before .before .before .before .before .before .pre .1 .1 .1)

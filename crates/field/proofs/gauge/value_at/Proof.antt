@@ -32,11 +32,8 @@ is-within-requires c κs = search needs
 returns-2 : tie.Need-returns-2
 returns-2 c = value-deep _ (c .before .before .before .before .before .before .before .before .before .before .before .before .pre .0) _ _ _ _ _ (c .before .before .before .before .beyond .ensures) (c .before .before .before .if1 .left) _ (c .before .is-within .ensures) (c .if2 .taken)
 
-center-requires : tie.Need-center-requires
-center-requires c κs = search needs
-
-contact-requires : tie.Need-contact-requires
-contact-requires c κs = search needs
+contact-at-requires : tie.Need-contact-at-requires
+contact-at-requires c κs = search needs
 
 angle-of-requires : tie.Need-angle-of-requires
 angle-of-requires c κs = search needs
@@ -45,7 +42,7 @@ narrow-requires : tie.Need-narrow-requires
 narrow-requires c κs = search needs
 
 returns-3 : tie.Need-returns-3
-returns-3 c = value-sampled _ (c .before .before .before .before .before .before .before .before .before .before .before .before .before .before .before .before .pre .0) _ _ _ _ _ (c .before .before .before .before .before .before .before .before .beyond .ensures) (c .before .before .before .before .before .before .before .if1 .left) _ (c .before .before .before .before .before .is-within .ensures) (c .before .before .before .before .if2 .left) _ _ _ _ (c .before .before .before .center .ensures) (c .before .before .contact .ensures) (c .before .angle-of .ensures) (c .narrow .ensures)
+returns-3 c = value-sampled _ (c .before .before .before .before .before .before .before .before .before .before .before .before .before .before .before .pre .0) _ _ _ _ _ (c .before .before .before .before .before .before .before .beyond .ensures) (c .before .before .before .before .before .before .if1 .left) _ (c .before .before .before .before .is-within .ensures) (c .before .before .before .if2 .left) _ _ _ (c .before .before .contact-at .ensures) (c .before .angle-of .ensures) (c .narrow .ensures)
 
 pub value-at-spec : {M : Type 1} → statement M
 value-at-spec =
@@ -59,8 +56,7 @@ value-at-spec =
     returns
     is-within-requires
     returns-2
-    center-requires
-    contact-requires
+    contact-at-requires
     angle-of-requires
     narrow-requires
     returns-3)

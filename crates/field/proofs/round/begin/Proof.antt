@@ -1,6 +1,6 @@
 -- `field::round::begin` meets its contract. Assumes nothing.
-use Rattle.field.proofs.RoundLaws.{begun-all, begun-near}
 use lib.Ieee.{div, ofBits}
+use Rattle.field.proofs.RoundLaws.{begun-all}
 use borrow.Author.Needs.{needs}
 use Rattle.field.proofs.round.begin.Statement.{statement}
 use Rattle.field.proofs.round.begin.Tie as tie
@@ -25,16 +25,10 @@ same-length c = search needs
 
 returns : tie.Need-returns
 unfolding div ofBits
-returns c = begun-all _ (c .before .before .before .before .before .before .before .before .before .pre .0) _ (c .before .before .before .before .cells .ensures) _ _ _ _ _ (c .before .before .before .before .before .if1 .taken) (c .before .before .before .before .before .before .before .before .before .pre .1 .1 .1) (c .before .before .fill-singles .ensures)
-
-near-squares-requires : tie.Need-near-squares-requires
-near-squares-requires c κs = search needs
-
-same-length-2 : tie.Need-same-length-2
-same-length-2 c = search needs
+returns c = begun-all _ (c .before .before .before .before .before .before .before .pre .0) _ (c .before .before .before .before .cells .ensures) _ _ _ (c .before .before .before .before .before .if1 .taken) (c .before .before .before .before .before .before .before .pre .1) (c .before .before .fill-singles .ensures)
 
 returns-2 : tie.Need-returns-2
-returns-2 c = begun-near _ _ _ _ _ _ (c .before .before .before .before .if1 .left) (c .before .before .near-squares .ensures)
+returns-2 c = search needs
 
 pub begin-spec : {M : Type 1} → statement M
 begin-spec =
@@ -47,6 +41,4 @@ begin-spec =
     fill-singles-requires
     same-length
     returns
-    near-squares-requires
-    same-length-2
     returns-2)

@@ -1,17 +1,40 @@
 -- `field::round::field` meets its contract. Assumes nothing.
-use Rattle.field.proofs.DoneLaws.{done-is}
+use native.Mathlib.Omega.{arith}
+use Rattle.field.proofs.DoneLaws.{gauge-ready, rows-ask, done-by}
 use borrow.Author.Needs.{needs}
 use Rattle.field.proofs.round.field.Statement.{statement}
 use Rattle.field.proofs.round.field.Tie as tie
+
+gauge-of-requires : tie.Need-gauge-of-requires
+gauge-of-requires c κs = search needs
+
+wanted-rows-requires : tie.Need-wanted-rows-requires
+wanted-rows-requires c κs =
+    let p = c .before .before .before .before .before .before .before .pre in
+    let q = c .before .gauge-of in
+    let g = q .ensures in
+    let r = gauge-ready (q .result) _ _ (g .0) (g .1) _ _ _ _ p in
+    (g .2, (r .sides, omega (arith, r .lent .bytes)))
+
+measure-requires : tie.Need-measure-requires
+measure-requires c κs =
+    let p = c .before .before .before .before .before .before .before .before .before .before .pre in
+    let q = c .before .before .before .before .gauge-of in
+    let g = q .ensures in
+    let r = gauge-ready (q .result) _ _ (g .0) (g .1) _ _ _ _ p in
+    (g .2, (r .sides, (omega (arith, r .lent .bytes), (omega (arith, r .lent .words), c .before .before .wanted-rows .ensures))))
 
 begin-requires : tie.Need-begin-requires
 begin-requires c κs = search needs
 
 clear-dirty-requires : tie.Need-clear-dirty-requires
-clear-dirty-requires c κs = search needs
+clear-dirty-requires c κs = let p = c .before .before .before .before .before .before .before .before .before .before .before .before .before .before .before .before .before .before .pre in (p .sides, omega (arith, p .lent .bytes))
 
 rows-requires : tie.Need-rows-requires
-rows-requires c κs = search needs
+rows-requires c κs =
+    let q = c .before .before .before .before .before .before .before .before .before .before .before .before .before .before .before .before .before .before .gauge-of in
+    let g = q .ensures in
+    (g .2, rows-ask (q .result) _ _ (g .0) (g .1) _ _ _ _ (c .before .before .before .before .before .before .before .before .before .before .before .before .before .before .before .before .before .before .before .before .before .before .before .before .pre) _ (c .before .before .before .before .before .before .before .before .before .before .before .before .before .before .before .before .wanted-rows .ensures) _ (c .before .before .before .before .before .before .before .before .before .before .before .before .before .measure .ensures) _ (c .before .before .before .before .before .before .before .before .before .begin .ensures) _ (c .before .before .before .before .before .clear-dirty .ensures))
 
 same-length : tie.Need-same-length
 same-length c = search needs
@@ -23,12 +46,18 @@ same-length-3 : tie.Need-same-length-3
 same-length-3 c = search needs
 
 returns : tie.Need-returns
-returns c = done-is _ _ _ _ _ (c .before .before .before .before .before .before .before .before .before .before .before .before .before .before .before .before .before .before .before .before .before .before .before .pre) _ (c .before .before .before .before .before .before .before .before .clear-dirty .ensures) _ _ _ _ _ (c .before .before .before .before .before .before .before .before .before .before .before .before .before .before .begin .ensures) (c .before .before .rows .ensures)
+returns c =
+    let q = c .before .before .before .before .before .before .before .before .before .before .before .before .before .before .before .before .before .before .before .before .before .gauge-of in
+    let g = q .ensures in
+    done-by (q .result) _ _ (g .0) (g .1) _ _ _ _ (c .before .before .before .before .before .before .before .before .before .before .before .before .before .before .before .before .before .before .before .before .before .before .before .before .before .before .before .pre) _ (c .before .before .before .before .before .before .before .before .before .before .before .before .before .before .before .before .before .before .before .wanted-rows .ensures) _ (c .before .before .before .before .before .before .before .before .before .before .before .before .before .before .before .before .measure .ensures) _ (c .before .before .before .before .before .before .before .before .before .before .before .before .begin .ensures) _ (c .before .before .before .before .before .before .before .before .clear-dirty .ensures) _ _ (c .before .before .rows .ensures)
 
 pub field-spec : {M : Type 1} → statement M
 field-spec =
     tie.close
     (tie.spec
+    gauge-of-requires
+    wanted-rows-requires
+    measure-requires
     begin-requires
     clear-dirty-requires
     rows-requires

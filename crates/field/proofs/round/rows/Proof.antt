@@ -1,5 +1,4 @@
 -- `field::round::rows` meets its contract. Assumes nothing.
-use native.Mathlib.Omega.{arith}
 use Rattle.field.proofs.DoneLaws.{sensing-in, rowed-is}
 use borrow.Author.Needs.{needs}
 use Rattle.field.proofs.round.rows.Statement.{statement}
@@ -23,11 +22,14 @@ add-e c = search needs
 rim-requires : tie.Need-rim-requires
 rim-requires c κs = search needs
 
+mul-t : tie.Need-mul-t
+mul-t c = search needs
+
 add-t : tie.Need-add-t
 add-t c = search needs
 
-gauge-of-requires : tie.Need-gauge-of-requires
-gauge-of-requires c κs = search needs
+add-t-2 : tie.Need-add-t-2
+add-t-2 c = search needs
 
 sub-field-rows : tie.Need-sub-field-rows
 sub-field-rows c = search needs
@@ -78,7 +80,7 @@ part-field-rows-start-5 : tie.Need-part-field-rows-start-5
 part-field-rows-start-5 c = search needs
 
 part-field-rows-end-5 : tie.Need-part-field-rows-end-5
-part-field-rows-end-5 c = omega (arith, c .before .before .before .before .before .rim .ensures, c .before .before .before .before .before .before .before .before .cells .ensures, c .before .before .before .before .before .before .before .before .before .before .before .before .before .pre .lent .doubles)
+part-field-rows-end-5 c = search needs
 
 sub-field-rows-6 : tie.Need-sub-field-rows-6
 sub-field-rows-6 c = search needs
@@ -87,20 +89,18 @@ part-field-rows-start-6 : tie.Need-part-field-rows-start-6
 part-field-rows-start-6 c = search needs
 
 part-field-rows-end-6 : tie.Need-part-field-rows-end-6
-part-field-rows-end-6 c = omega (arith, c .before .before .before .before .before .before .before .before .before .cells .ensures, c .before .before .before .before .before .before .before .before .before .before .before .before .before .before .pre .lent .singles)
+part-field-rows-end-6 c = search needs
 
 field-rows-requires : tie.Need-field-rows-requires
 field-rows-requires c κs =
-    let g = c .before .before .before .before .before .before .gauge-of .ensures in
-    (g .2, sensing-in _ _ _ _ _ (c .before .before .before .before .before .before .before .before .before .before .before .before .before .before .before .pre) _ _ _ _ (c .before .before .before .before .before .before .before .before .before .before .cells .ensures) (c .before .before .before .before .before .before .before .before .before .allowed .ensures) (c .before .before .before .before .before .before .before .before .near .ensures) (c .before .before .before .before .before .before .before .rim .ensures) (c .before .before .before .before .before .before .gauge-of .result) (g .0))
+    let p = c .before .before .before .before .before .before .before .before .before .before .before .before .before .before .pre in
+    (p .0, sensing-in _ _ _ _ _ (p .1) _ _ _ _ (c .before .before .before .before .before .before .before .before .before .cells .ensures) (c .before .before .before .before .before .before .before .before .allowed .ensures) (c .before .before .before .before .before .before .before .near .ensures) (c .before .before .before .before .before .before .rim .ensures))
 
 same-length : tie.Need-same-length
 same-length c = search needs
 
 returns : tie.Need-returns
-returns c =
-    let g = c .before .before .before .before .before .before .before .before .before .gauge-of .ensures in
-    rowed-is _ _ _ _ _ (c .before .before .before .before .before .before .before .before .before .before .before .before .before .before .before .before .before .before .pre) _ _ _ _ (c .before .before .before .before .before .before .before .before .before .before .before .before .before .cells .ensures) (c .before .before .before .before .before .before .before .before .before .before .before .before .allowed .ensures) (c .before .before .before .before .before .before .before .before .before .before .before .near .ensures) (c .before .before .before .before .before .before .before .before .before .before .rim .ensures) (c .before .before .before .before .before .before .before .before .before .gauge-of .result) _ _ _ (g .0) (g .1) (c .before .before .field-rows .ensures)
+returns c = rowed-is _ _ _ _ _ (c .before .before .before .before .before .before .before .before .before .before .before .before .before .before .before .before .before .pre .1) _ _ _ _ (c .before .before .before .before .before .before .before .before .before .before .before .before .cells .ensures) (c .before .before .before .before .before .before .before .before .before .before .before .allowed .ensures) (c .before .before .before .before .before .before .before .before .before .before .near .ensures) (c .before .before .before .before .before .before .before .before .before .rim .ensures) _ _ _ _ (c .before .before .field-rows .ensures)
 
 pub rows-spec : {M : Type 1} → statement M
 rows-spec =
@@ -112,8 +112,9 @@ rows-spec =
     near-requires
     add-e
     rim-requires
+    mul-t
     add-t
-    gauge-of-requires
+    add-t-2
     sub-field-rows
     part-field-rows-start
     part-field-rows-end

@@ -21,7 +21,7 @@ wanted-requires : tie.Need-wanted-requires
 wanted-requires c κs = let s = c .before .before .before .before .before .before in let p = s .pre .1 .0 in (s .pre .0, (low s _ (p .allowed-long), low s _ (p .near-long)))
 
 value-at-requires : tie.Need-value-at-requires
-value-at-requires c κs = let s = c .before .before .before .before .before .before .before .before in let p = s .pre .1 .0 in (s .pre .0, (p .over, (p .stock-long, (p .table, (s .pre .1 .1 .0, s .pre .1 .1 .1)))))
+value-at-requires c κs = let s = c .before .before .before .before .before .before .before .before in let p = s .pre .1 .0 in (s .pre .0, (p .over, (p .stock-long, (p .tables, (s .pre .1 .1 .0, s .pre .1 .1 .1)))))
 
 mul-f : tie.Need-mul-f
 mul-f c = omega (arith, low (c .before .before .before .before .before .before .before .before .before) _ (c .before .before .before .before .before .before .before .before .before .pre .1 .0 .over .sides .cells))

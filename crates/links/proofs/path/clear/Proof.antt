@@ -16,8 +16,8 @@ cells-requires c κs = search needs
 rim-requires : tie.Need-rim-requires
 rim-requires c κs = search needs
 
-columns-requires : tie.Need-columns-requires
-columns-requires c κs = search needs
+tables-end-requires : tie.Need-tables-end-requires
+tables-end-requires c κs = search needs
 
 sub-link-clear : tie.Need-sub-link-clear
 sub-link-clear c = search needs
@@ -42,7 +42,7 @@ part-link-clear-end-2 c = search needs
 
 link-clear-requires : tie.Need-link-clear-requires
 unfolding within
-link-clear-requires c κs = let s = c .before .before .before .before .before .before .before .before .before in let N = c .before .before .before .before .cells .ensures in (subst (λ (k : ℕ). Walls (s .args .s) (take (k - 0) (drop 0 (s .args .w .now))) (s .args .vs .now) (s .args .lens .now)) (sym N) (s .pre .walls), (s .pre .over, rim-at (s .args .s) (s .args .w .now) _ N _ (c .before .before .before .rim .ensures) _ (c .before .before .columns .ensures) (s .pre .rim)))
+link-clear-requires c κs = let s = c .before .before .before .before .before .before .before .before .before in let N = c .before .before .before .before .cells .ensures in (subst (λ (k : ℕ). Walls (s .args .s) (take (k - 0) (drop 0 (s .args .w .now))) (s .args .vs .now) (s .args .lens .now)) (sym N) (s .pre .walls), (s .pre .over, rim-at (s .args .s) (s .args .w .now) _ N _ (c .before .before .before .rim .ensures) _ (c .before .before .tables-end .ensures) (s .pre .tables)))
 
 returns : tie.Need-returns
 unfolding within
@@ -54,7 +54,7 @@ clear-spec =
     (tie.spec
     cells-requires
     rim-requires
-    columns-requires
+    tables-end-requires
     sub-link-clear
     part-link-clear-start
     part-link-clear-end

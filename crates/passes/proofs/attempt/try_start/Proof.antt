@@ -24,8 +24,14 @@ add-e c = search needs
 rim-requires : tie.Need-rim-requires
 rim-requires c κs = search needs
 
+mul-end : tie.Need-mul-end
+mul-end c = search needs
+
 add-end : tie.Need-add-end
 add-end c = search needs
+
+add-end-2 : tie.Need-add-end-2
+add-end-2 c = search needs
 
 sub-try-guide : tie.Need-sub-try-guide
 sub-try-guide c = search needs
@@ -99,7 +105,9 @@ try-start-spec =
     mul-e
     add-e
     rim-requires
+    mul-end
     add-end
+    add-end-2
     sub-try-guide
     part-try-guide-start
     part-try-guide-end

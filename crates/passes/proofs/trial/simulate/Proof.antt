@@ -100,7 +100,7 @@ add-if3 : tie.Need-add-if3 Inv-loop μ-loop Inv-outer μ-outer
 add-if3 c = omega (arith, all-safe (c .before .before .before .before .before .before .before .before .before .before) .room, out-same (c .before .before .before .before .before .before .before .before .before .before .before .before .before .before), c .before .before .before .before .before .before .before .before .before .before .before .before .before .before .before .before .before .before .before .before .before .before .before .before .before .before .before .before .before .before .before .good)
 
 advance-requires : tie.Need-advance-requires Inv-loop μ-loop Inv-outer μ-outer
-advance-requires c κs = (fit-of _ _ _ _ _ _ (c .before .before .before .before .before .before .before .before .before .before .before .before .before .before .before .before .before .before .before .before .before .before .before .before .before .before .before .before .before .before .before .before .before .before .before .pre .1 .1) (safe-spent _ _ _ _ (all-safe (c .before .before .before .before .before .before .before .before .before .before .before .before .before .before))), room-then _ _ _ (all-safe (c .before .before .before .before .before .before .before .before .before .before .before .before .before .before) .out-long ∙ out-same (c .before .before .before .before .before .before .before .before .before .before .before .before .before .before .before .before .before .before)) (c .before .before .before .if3 .left))
+advance-requires c κs = (c .before .before .before .before .before .before .before .before .before .before .before .before .before .before .before .before .before .before .before .before .before .before .before .before .before .before .before .before .before .before .before .before .before .before .before .pre .1 .0, (fit-of _ _ _ _ _ _ (c .before .before .before .before .before .before .before .before .before .before .before .before .before .before .before .before .before .before .before .before .before .before .before .before .before .before .before .before .before .before .before .before .before .before .before .pre .1 .1) (safe-spent _ _ _ _ (all-safe (c .before .before .before .before .before .before .before .before .before .before .before .before .before .before))), room-then _ _ _ (all-safe (c .before .before .before .before .before .before .before .before .before .before .before .before .before .before) .out-long ∙ out-same (c .before .before .before .before .before .before .before .before .before .before .before .before .before .before .before .before .before .before)) (c .before .before .before .if3 .left)))
 
 add-k : tie.Need-add-k Inv-loop μ-loop Inv-outer μ-outer
 add-k c = omega (arith, c .before .before .before .before .before .before .before .before .before .before .before .before .before .before .before .before .before .before .before .before .loop-test .taken, c .before .before .before .before .before .before .before .before .before .before .before .before .before .before .before .before .before .before .before .before .before .before .before .leg-at .ok)

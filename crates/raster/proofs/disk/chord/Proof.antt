@@ -16,35 +16,20 @@ sqrt-requires c κs = search needs
 place-requires : tie.Need-place-requires
 place-requires c κs = search needs
 
-first-from-requires : tie.Need-first-from-requires
-first-from-requires c κs = search needs
-
 place-requires-2 : tie.Need-place-requires-2
 place-requires-2 c κs = search needs
 
-floor-requires : tie.Need-floor-requires
-floor-requires c κs = search needs
-
-cols-of-requires : tie.Need-cols-of-requires
-cols-of-requires c κs = search needs
+cols-from-requires : tie.Need-cols-from-requires
+cols-from-requires c κs = search needs
 
 returns-2 : tie.Need-returns-2
 returns-2 c =
-    let first = c .before .before .before .before in
-    let root = first .before .before .before in
-    chord-some _ _ _ _ _ (root .before .before .before .row-y .ensures) (root .before .if1 .left) _ _ _ _ _ _ (root .sqrt .ensures) (first .before .place .ensures)
-    (first .first-from .ensures) (c .before .before .place2 .ensures) (c .before .floor .ensures) (c .cols-of .ensures)
+    let first = c .before .before .before in
+    let root = first .before .before in
+    chord-some _ _ _ _ _ (root .before .before .before .row-y .ensures) (root .before .if1 .left) _ _ _ _ (root .sqrt .ensures) (first .place .ensures)
+    (c .before .place2 .ensures) (c .cols-from .ensures)
 
 pub chord-spec : {M : Type 1} → statement M
 chord-spec =
     tie.close
-    (tie.spec
-    row-y-requires
-    returns
-    sqrt-requires
-    place-requires
-    first-from-requires
-    place-requires-2
-    floor-requires
-    cols-of-requires
-    returns-2)
+    (tie.spec row-y-requires returns sqrt-requires place-requires place-requires-2 cols-from-requires returns-2)

@@ -6,8 +6,8 @@ use borrow.Author.Needs.{needs}
 use Rattle.tracing.proofs.round.trace_round.Statement.{statement}
 use Rattle.tracing.proofs.round.trace_round.Tie as tie
 
-sense-requires : tie.Need-sense-requires
-sense-requires c κs = search needs
+field-requires : tie.Need-field-requires
+field-requires c κs = search needs
 
 curves-requires : tie.Need-curves-requires
 curves-requires c κs = search needs
@@ -17,7 +17,7 @@ mul-t25 c =
     let k = c .before .before .before .before .before .before .before in
     let q = k .before .before .before .before .before .before .before .before .before .before .before in
     let a = q .before .before .before .before .before .before .before .before .before in
-    let z = work-fits (a .args .s) _ _ _ _ _ (a .pre) _ (q .sense .ensures .sampled) in
+    let z = work-fits (a .args .s) _ _ _ _ _ (a .pre) _ (q .field .ensures .sampled) in
     omega arith
 
 same-length : tie.Need-same-length
@@ -37,13 +37,13 @@ returns c =
     let k = c .before .before .before .before .before .before .before in
     let q = k .before .before .before .before .before .before .before .before .before .before .before in
     let a = q .before .before .before .before .before .before .before .before .before in
-    round-traced (a .args .s) _ _ _ _ _ (a .pre) _ _ _ _ (q .sense .ensures) _ _ _ _ (k .curves .ensures .0) (k .curves .ensures .1) _ refl refl
+    round-traced (a .args .s) _ _ _ _ _ (a .pre) _ _ _ _ (q .field .ensures) _ _ _ _ (k .curves .ensures .0) (k .curves .ensures .1) _ refl refl
 
 pub trace-round-spec : {M : Type 1} → statement M
 trace-round-spec =
     tie.close
     (tie.spec
-    sense-requires
+    field-requires
     curves-requires
     mul-t25
     same-length

@@ -1,0 +1,24 @@
+-- `field::gauge::contact_at` meets its contract. Assumes nothing.
+use mathlib.Core.Path.{sym, subst}
+use Prim.Native.Nat.{ℕ}
+use borrow.Author.Needs.{needs}
+use Rattle.raster.proofs.ContactLaws.{contact-is}
+use Rattle.rims.specs.Offsets.{Rims}
+use Rattle.setup.specs.Place.{contactAt}
+use Rattle.field.proofs.gauge.contact_at.Statement.{statement}
+use Rattle.field.proofs.gauge.contact_at.Tie as tie
+
+samples-of-requires : tie.Need-samples-of-requires
+samples-of-requires c κs = search needs
+
+centre-hits-requires : tie.Need-centre-hits-requires
+centre-hits-requires c κs =
+    let s = c .before .before .before in
+    (s .pre .0, subst (λ (n : ℕ). Rims (s .args .s .grid) (s .args .s .r) n (s .args .rim .now)) (sym (c .samples-of .ensures)) (s .pre .1 .rims))
+
+returns : tie.Need-returns
+unfolding contactAt
+returns c = contact-is _ _ _ _ _ _ _ (c .before .samples-of .ensures) (c .centre-hits .ensures)
+
+pub contact-at-spec : {M : Type 1} → statement M
+contact-at-spec = tie.close (tie.spec samples-of-requires centre-hits-requires returns)

@@ -1,0 +1,108 @@
+// Bands of rows: a round of the field goes by the rows near to a cell that was cut.
+ghost use mathlib.Core.Path.{_≡_};
+ghost use Prim.Native.Nat.{_*_, _≤_, min, max};
+ghost use lib.ListN.{length};
+ghost use Rattle.raster.specs.Grid.{Sides};
+ghost use Rattle.field.specs.Bands.{widened, Margin, Unmarked, MarkedRows};
+use distance::limits::Limit;
+use raster::grid::Grid;
+
+// The rows from lo on, before hi.
+pub struct Band {
+    pub lo: usize,
+    pub hi: usize,
+}
+
+pub fn lesser(a: usize, b: usize) -> usize
+    ensures { λ r. ⌜ r ≡ min a b ⌝ }
+{
+    if a < b {
+        return a;
+    }
+    b
+}
+
+pub fn greater(a: usize, b: usize) -> usize
+    ensures { λ r. ⌜ r ≡ max a b ⌝ }
+{
+    if a < b {
+        return b;
+    }
+    a
+}
+
+// How many rows apart cells of a map of ny rows can be that are within a limit: all of them, where none
+// is told.
+pub fn margin(l: Limit, ny: usize) -> usize
+    requires { ⌜ ny ≤ 4096 ⌝ }
+    ensures { λ m. ⌜ Margin l ny m ⌝ }
+{
+    if l.told {
+        let below = l.below as usize;
+        for m in 0..ny {
+            let next = m + 1;
+            if below <= next * next {
+                return m;
+            }
+        }
+    }
+    ny
+}
+
+// With m rows more on either side, cut to a map of ny rows.
+pub fn widen(band: Band, m: usize, ny: usize) -> Band
+    requires { ⌜ (band .hi ≤ 4096) × (m ≤ 4096) ⌝ }
+    ensures { λ r. ⌜ r ≡ widened ny m band ⌝ }
+{
+    let less = lesser(band.lo, m);
+    Band {
+        lo: band.lo - less,
+        hi: lesser(band.hi + m, ny),
+    }
+}
+
+// The first mark, or where the marks end.
+fn first_of(marks: &[u8]) -> usize
+    ensures { λ r. ⌜ (r ≤ length (now (marks .entry))) × Unmarked (now (marks .entry)) 0 r ⌝ }
+{
+    for k in 0..marks.len() {
+        if marks[k] == 1 {
+            return k;
+        }
+    }
+    marks.len()
+}
+
+// Behind the last mark, or 0.
+fn end_of(marks: &[u8]) -> usize
+    ensures { λ r. ⌜ (r ≤ length (now (marks .entry))) × Unmarked (now (marks .entry)) r (length (now (marks .entry))) ⌝ }
+{
+    let mut end = marks.len();
+    while 0 < end {
+        let k = end - 1;
+        if marks[k] == 1 {
+            return end;
+        }
+        end = k;
+    }
+    0
+}
+
+// From the first row that has a mark to the last.
+pub fn marked_rows(g: Grid, marks: &[u8]) -> Band
+    requires { ⌜ Sides g ⌝ }
+    requires { ⌜ length (now marks) ≡ g .ny * g .nx ⌝ }
+    ensures { λ r. ⌜ MarkedRows (now (marks .entry)) (g .nx) (g .ny) r ⌝ }
+{
+    let first = first_of(marks);
+    let end = end_of(marks);
+    if first < end {
+        let nx = g.nx;
+        let last = end - 1;
+        return Band {
+            lo: first / nx,
+            hi: last / nx + 1,
+        };
+    }
+    Band { lo: 0, hi: 0 }
+}

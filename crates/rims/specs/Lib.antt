@@ -1,0 +1,3 @@
+-- What the contracts of `rims` cite: the tables of cells under a rim.
+pub mod Offsets
+pub mod Boxes
