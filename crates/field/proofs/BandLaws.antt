@@ -148,7 +148,7 @@ dirty-part nx ny n a b band N A M = subst (λ (q : List ℕ). MarkedRows q nx ny
 -- ---- squares at or above a limit
 
 module _ (g : Gauge) (h : Gauged g) (d : ℕ) (b : d ≤ far) where
-  pub near-out : g .near .limit .told ≡ true → g .near .limit .below ≤ d → le (rootedOf d) (reachOf (g .setup)) ≡ false
+  near-out : g .near .limit .told ≡ true → g .near .limit .below ≤ d → le (rootedOf d) (reachOf (g .setup)) ≡ false
   unfolding passesOf scaledOf
   near-out t l = sym (ap (λ (q : Threshold). passesOf (q .scaled) (q .scale) (q .strict) (q .x) d) (h .near .is)) ∙ h .near .limit .squares t d b ∙ le-ltb d (g .near .limit .below) l
 

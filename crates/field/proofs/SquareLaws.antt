@@ -75,12 +75,12 @@ module _ (nx ny : ℕ) (band : Band) (a c : ℕ) (b u : List ℕ) (O : band .lo 
       transform-long 1 part nx (band .hi - band .lo) (within (c + band .lo * nx) (c + (band .hi * nx + 3 * nx)) u) _ (omega (arith, l, cells-are)) refl ∙ l
 
   -- nothing else changed
-  pub squares-only : Only (c + band .lo * nx) (c + (band .hi * nx + 3 * nx)) u (squaresPut nx band a c b u)
+  squares-only : Only (c + band .lo * nx) (c + (band .hi * nx + 3 * nx)) u (squaresPut nx band a c b u)
   unfolding squaresPut
   squares-only = put-only (c + band .lo * nx) (c + (band .hi * nx + 3 * nx)) u squares-fit left left-long
 
   -- the squares, by cell
-  pub squares-at : (i j : ℕ) → i < nx → Inside band j → getD (within c (c + ny * nx) (squaresPut nx band a c b u)) (number nx i j) 0 ≡ nearest 1 part nx (at i (j - band .lo)) (band .hi - band .lo)
+  squares-at : (i j : ℕ) → i < nx → Inside band j → getD (within c (c + ny * nx) (squaresPut nx band a c b u)) (number nx i j) 0 ≡ nearest 1 part nx (at i (j - band .lo)) (band .hi - band .lo)
   unfolding squaresPut transformOf
   squares-at i j h I =
       let low = I .low in

@@ -29,7 +29,8 @@ use Rattle.spans.proofs.MonoLaws.{Size, between-finite, add-some, share-mono}
 use Rattle.spans.proofs.EdgeLaws.{share-from, tame-size, column-edged, row-edged, column-between, row-between}
 use Rattle.rims.specs.Offsets.{reachOf, Roomy, Rims}
 use Rattle.rims.specs.Offsets as Offsets
-use Rattle.rims.specs.Boxes.{word, Apart, Started, Two, EdgesIn, EdgesTo, Near, Entry, EntriesTo, Boxed}
+use Rattle.spans.specs.Spans.{word}
+use Rattle.rims.specs.Boxes.{Apart, Started, Two, EdgesIn, EdgesTo, Near, Entry, EntriesTo, Boxed}
 use Rattle.rims.proofs.FirstLaws.{firsts-same, firsts-after, apart-none, apart-set, apart-more, apart-wider}
 
 -- ---- along one axis
@@ -197,7 +198,7 @@ module _ (g : Grid) (r : Float) (n at : ℕ) (w : List Float) where
 
     module _ (S : Sides g) (far : 12289 ≤ at) (few : n ≤ 2048) (long : 16900 ≤ length w) (F : Started g w) where
       -- the word before the first numbers is as it was
-      pub flag-same : getD (set w at nought) 8192 nan ≡ getD w 8192 nan
+      flag-same : getD (set w at nought) 8192 nan ≡ getD w 8192 nan
       flag-same = getD-set-other w at 8192 nought nan (omega arith)
 
       pub flag-number : T (not (isNan (getD (set w at nought) 8192 nan)))
@@ -259,7 +260,7 @@ module _ (g : Grid) (S : Sides g) (r : Float) (n at : ℕ) (few : n ≤ 2048) (w
   }
 
 module _ (g : Grid) (S : Sides g) (r : Float) (n at a e : ℕ) (few : n ≤ 2048) (w v : List Float) (A : Apart a e w v) where
-  pub boxed-after : 12289 ≤ a → at + 2049 ≤ a → Boxed g r n at w → Boxed g r n at v
+  boxed-after : 12289 ≤ a → at + 2049 ≤ a → Boxed g r n at w → Boxed g r n at v
   boxed-after h k = boxed-same g S r n at few w v (A .long) (λ i b d. A .before i (omega arith)) (λ i b d. A .before i (omega arith))
 
   pub boxed-before : e ≤ 8193 → e ≤ at → Boxed g r n at w → Boxed g r n at v

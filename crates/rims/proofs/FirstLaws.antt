@@ -20,7 +20,8 @@ use Rattle.numbers.proofs.BoundLaws.{bits-number, bits-back, bits-unsigned}
 use Rattle.raster.specs.Grid.{Sides}
 use Rattle.raster.specs.declared.grid.Grid.{Grid}
 use Rattle.spans.proofs.MonoLaws.{Size, size-unsigned, over-size}
-use Rattle.rims.specs.Boxes.{word, Apart, First, FirstsTo, Started}
+use Rattle.spans.specs.Spans.{word}
+use Rattle.rims.specs.Boxes.{Apart, First, FirstsTo, Started}
 
 -- ---- the first number of a cell
 

@@ -21,7 +21,8 @@ use Rattle.raster.specs.declared.grid.Grid.{Grid}
 use Rattle.raster.specs.declared.grid.Found.the-variants.{At}
 use Rattle.raster.proofs.GridLaws.{found-at, number-below, stock-some}
 use Rattle.rims.specs.Offsets.{Roomy}
-use Rattle.rims.specs.Boxes.{word, First, FirstsTo, Two, Near, EntriesTo}
+use Rattle.spans.specs.Spans.{word}
+use Rattle.rims.specs.Boxes.{First, FirstsTo, Two, Near, EntriesTo}
 
 -- ---- along one axis
 
@@ -70,10 +71,7 @@ module _ (g : Grid) (S : Sides g) (p : Vec2) (r : Float) (w : List Float) (n at 
   along : Two (g .ny) (j + e / 4096) (rowAt g point)
   along = subst (λ (z : ℕ). Two (g .ny) (z + e / 4096) (rowAt g point)) (let z : j + s - s ≡ j = omega arith in z) (near .row p (i + s) (j + s) is R)
 
-  -- both columns, and both rows, are on the grid
-  pub columns-on : i + e % 4096 + 1 < g .nx
-  columns-on = across .on
-
+  -- both rows are on the grid
   pub rows-on : j + e / 4096 + 1 < g .ny
   rows-on = along .on
 
@@ -108,10 +106,10 @@ module _ (g : Grid) (S : Sides g) (p : Vec2) (r : Float) (w : List Float) (n at 
       subst (λ (z : ℕ). First (g .cell) (j + e / 4096 + 1) (getD w z nan)) (let z : 8193 + (j + e / 4096 + 1) ≡ 8194 + (j + e / 4096) = omega arith in z) (Y .at (j + e / 4096 + 1) (omega arith) o)
 
   module _ (x y : ℕ) (cx : x ≡ cond (le (getD w (8194 + (i + e % 4096)) nan) qx) (i + e % 4096 + 1) (i + e % 4096)) (cy : y ≡ cond (le (getD w (8194 + (j + e / 4096)) nan) qy) (j + e / 4096 + 1) (j + e / 4096)) where
-    pub column-on : x < g .nx
+    column-on : x < g .nx
     column-on = subst (λ (z : ℕ). z < g .nx) (sym cx) (two-on (g .cell) qx _ (g .nx) _ (S .columns) (sub-fits binary64 _ _) two-x first-x)
 
-    pub row-on : y < g .ny
+    row-on : y < g .ny
     row-on = subst (λ (z : ℕ). z < g .ny) (sym cy) (two-on (g .cell) qy _ (g .ny) _ (S .rows) (sub-fits binary64 _ _) two-y first-y)
 
     pub cell-inside : y * g .nx + x < g .ny * g .nx

@@ -6,21 +6,16 @@ use mathlib.Core.Bool.{true, not}
 use mathlib.Core.List.{List}
 use lib.ListN.{length, getD}
 use lib.Dec.{T}
-use lib.Ieee.{Float, nan, binary64, isNan, fits, toBits, add, sub, div, lt, le}
+use lib.Ieee.{Float, nan, binary64, isNan, fits, add, sub, div, lt, le}
 use Rattle.numbers.specs.Cast.{float}
 use Rattle.geom.specs.declared.vec2.Vec2.{Vec2}
 use Rattle.raster.specs.Grid.{columnAt, rowAt, cellOf}
 use Rattle.raster.specs.Contact.{directionAt, rimAt}
 use Rattle.raster.specs.declared.grid.Grid.{Grid}
 use Rattle.raster.specs.declared.grid.Found.the-variants.{At}
+use Rattle.spans.specs.Spans.{word}
 use Rattle.spans.specs.Ends.{belowOf, beyondOf}
 use Rattle.rims.specs.Offsets.{Roomy}
-
--- ---- words
-
--- the number that stands at place k, by its bits
-abbrev pub word : List Float → ℕ → ℕ
-word w k = toBits binary64 (getD w k nan)
 
 -- w becomes v, and what stands before a and from e on is as it was
 pub record Apart (a e : ℕ) (w v : List Float) : Type 0 where

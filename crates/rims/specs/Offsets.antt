@@ -5,7 +5,7 @@ use mathlib.Core.Bool.{not, cond}
 use mathlib.Core.List.{List}
 use lib.ListN.{length, getD}
 use lib.Dec.{T}
-use lib.Ieee.{Float, nan, binary64, isNan, toUnsigned, toBits, add, sub, mul, div, le}
+use lib.Ieee.{Float, nan, binary64, isNan, toUnsigned, add, sub, mul, div, le}
 use Rattle.numbers.specs.Cast.{float}
 use Rattle.numbers.specs.Small.{half}
 use Rattle.geom.specs.Vec.{f0}
@@ -14,6 +14,7 @@ use Rattle.raster.specs.Grid.{centerOf, cellOf}
 use Rattle.raster.specs.Contact.{directionAt, rimAt, Rim}
 use Rattle.raster.specs.declared.grid.Grid.{Grid}
 use Rattle.raster.specs.declared.grid.Found.the-variants.{At}
+use Rattle.spans.specs.Spans.{word}
 
 -- ---- along one axis
 
@@ -60,9 +61,9 @@ Entry g r s u x = (e : ℕ) → x ≡ e + 1 → Lies g r s u e
 
 -- ---- the table
 
--- the number that stands at place 4096 + k, by its bits
+-- sample k's word
 abbrev pub entryAt : List Float → ℕ → ℕ
-entryAt w k = toBits binary64 (getD w (4096 + k) nan)
+entryAt w k = word w (4096 + k)
 
 -- w holds the directions of n samples, and behind them the cells that they lie in around the centre of a cell
 pub record Rims (g : Grid) (r : Float) (n : ℕ) (w : List Float) : Type 0 where

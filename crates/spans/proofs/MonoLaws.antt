@@ -76,7 +76,7 @@ neg-finite nan h = never h
 neg-finite (inf s) h = never h
 neg-finite (fin s m e) h = refl
 
-pub from-finite : (x y : Float) → isNan x ≡ false → isFinite y ≡ true → isNan (sub binary64 x y) ≡ false
+from-finite : (x y : Float) → isNan x ≡ false → isFinite y ≡ true → isNan (sub binary64 x y) ≡ false
 unfolding sub
 from-finite x y p q = ap isNan (add-swap binary64 x (neg y)) ∙ add-some (neg y) x (neg-finite y q) p
 
@@ -125,7 +125,7 @@ zero-number = refl
 
 module _ (o cell : Float) (O : isFinite o ≡ true) (S : Size cell) where
   -- a place on a side, in cells
-  pub share-number : (x : Float) → isNan x ≡ false → isNan (div binary64 (sub binary64 x o) cell) ≡ false
+  share-number : (x : Float) → isNan x ≡ false → isNan (div binary64 (sub binary64 x o) cell) ≡ false
   share-number x p = over-size (sub binary64 x o) cell S (from-finite x o p O)
 
   pub share-mono : (x y : Float) → le x y ≡ true → le (div binary64 (sub binary64 x o) cell) (div binary64 (sub binary64 y o) cell) ≡ true

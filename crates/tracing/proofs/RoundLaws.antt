@@ -159,9 +159,6 @@ module _ (s : Setup) (all : Bool) (b u : List ℕ) (f w : List Float) (h : Ready
   field-size : length f₁ ≡ length f
   field-size = ap length singles ∙ put-run-long 0 (cellsOf s) f (sensedIn s all b f .field) (omega (arith, h .lent .singles)) (field-long s all b u w f h)
 
-  pub field-room : cellsOf s ≤ length f₁
-  field-room = omega (arith, field-size, h .lent .singles)
-
   pub round-traced : (m : ℕ) (b₂ u₂ : List ℕ) (w₂ : List Float) → Lies (cellsOf s) (curvesOf s (run 0 (cellsOf s) f₁)) m u₂ w₂ → Beside (cellsOf s) b₁ u₁ w b₂ u₂ w₂
       → (t : Traced) → t .pieces ≡ m → t .work ≡ r * s .samples → TracedRound s all b u f w t b₂ u₂ f₁ w₂
   unfolding workOf

@@ -2,7 +2,7 @@
 use mathlib.Core.Path.{_≡_}
 use Prim.Native.Nat.{_+_, _-_, _*_, _/_, _<_}
 use native.Mathlib.Omega.{arith}
-use Rattle.rims.specs.Boxes.{word}
+use Rattle.spans.specs.Spans.{word}
 use Rattle.rims.proofs.NearLaws.{rows-on, cell-inside, cell-stock}
 use borrow.Author.Needs.{needs}
 use Rattle.rims.proofs.contact.sample_hit.Statement.{statement}
