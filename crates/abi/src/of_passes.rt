@@ -96,7 +96,21 @@ pub extern "C" fn passes_simulate(
         samples,
         true,
     );
-    let t = passes::trial::simulate(s, wall, vs, lens, rim, guide, map, log, triples, kept);
+    let mut tiles = [0u8; 20480];
+    rims::tiles::fill(s.grid, map, &mut tiles);
+    let t = passes::trial::simulate(
+        s,
+        wall,
+        vs,
+        lens,
+        rim,
+        guide,
+        map,
+        &tiles,
+        log,
+        triples,
+        kept,
+    );
     out[0] = t.points as u64;
     out[1] = t.removed as u64;
     out[2] = t.work as u64;

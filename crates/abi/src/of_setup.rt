@@ -174,6 +174,9 @@ pub extern "C" fn links_link_clear(
         ny,
     };
     let s = made(g, Region { at, first, loops }, r, keep, samples);
+    let mut tiles = [0u8; 20480];
+    rims::tiles::fill(s.grid, map, &mut tiles);
     let a = Vec2 { x: ax, y: ay };
-    links::straight::link_clear(s, wall, vs, lens, map, tables, a, Vec2 { x: bx, y: by })
+    let b = Vec2 { x: bx, y: by };
+    links::straight::link_clear(s, wall, vs, lens, map, &tiles, tables, a, b)
 }

@@ -4,6 +4,7 @@ pub mod SquareLaws
 pub mod SegmentLaws
 pub mod JoinLaws
 pub mod MarchLaws
+pub mod QuietLaws
 pub mod ChainLaws
 pub mod DedupLaws
 pub mod FollowLaws

@@ -2,6 +2,7 @@
 pub mod Edge
 pub mod Square
 pub mod March
+pub mod Quiet
 pub mod Curve
 pub mod Chain
 pub mod Held

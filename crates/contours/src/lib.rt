@@ -3,6 +3,7 @@ mod chain;
 mod edge;
 mod march;
 mod places;
+mod quiet;
 mod square;
 mod tables;
 pub mod trace;

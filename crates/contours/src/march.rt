@@ -1,12 +1,14 @@
 // Marching squares: the segments where a field crosses a level, in a lent slice. The edges that segment k
 // joins stand at 2 k and 2 k + 1.
 ghost use mathlib.Core.Path.{_≡_};
-ghost use Prim.Native.Nat.{_+_, _*_, _<_, _≤_};
+ghost use Prim.Native.Nat.{_+_, _-_, _*_, _<_, _≤_};
 ghost use lib.ListN.{length};
 ghost use Rattle.raster.specs.Grid.{Over};
 ghost use Rattle.contours.specs.Square.{InGrid, Joins, directedOf};
 ghost use Rattle.contours.specs.March.{segmentsOf, putSegment, marchCode, marchSquare, marchRow, march, Gathered};
+ghost use Rattle.contours.specs.Quiet.{InRow, marchRun};
 use super::edge::put_edge;
+use super::quiet::is_quiet;
 use super::square::Saddle;
 use super::square::Segment;
 use super::square::Square;
@@ -106,15 +108,72 @@ fn march_square(
     push_code(g, f, level, q, segs, n, code)
 }
 
+// The squares from column a on before e of row j.
+fn march_squares(
+    g: Grid,
+    f: &[f32],
+    level: f32,
+    segs: &mut [u32],
+    n: usize,
+    a: usize,
+    e: usize,
+    j: usize,
+) -> usize
+    requires { ⌜ Over g (length (now f)) ⌝ }
+    requires { ⌜ InRow g a e j ⌝ }
+    requires { ⌜ 2 * (n + 2 * (e - a)) ≤ length (now segs) ⌝ }
+    ensures { λ r. ⌜ Gathered (marchRun g (now (f .entry)) level a e j (segmentsOf n (now (segs .entry)))) (n + 2 * (e - a)) (now (segs .entry)) r (now (segs .exit)) ⌝ }
+{
+    let mut m = n;
+    for i in a..e {
+        m = march_square(g, f, level, segs, m, i, j);
+    }
+    m
+}
+
+// The same, but a quiet run is passed over.
+fn march_run(
+    g: Grid,
+    f: &[f32],
+    level: f32,
+    segs: &mut [u32],
+    n: usize,
+    a: usize,
+    e: usize,
+    j: usize,
+) -> usize
+    requires { ⌜ Over g (length (now f)) ⌝ }
+    requires { ⌜ InRow g a e j ⌝ }
+    requires { ⌜ 2 * (n + 2 * (e - a)) ≤ length (now segs) ⌝ }
+    ensures { λ r. ⌜ Gathered (marchRun g (now (f .entry)) level a e j (segmentsOf n (now (segs .entry)))) (n + 2 * (e - a)) (now (segs .entry)) r (now (segs .exit)) ⌝ }
+{
+    if is_quiet(g, f, level, a, e, j) {
+        return n;
+    }
+    march_squares(g, f, level, segs, n, a, e, j)
+}
+
+// Where a run from column a on ends: 32 squares on, or with the row.
+fn run_end(a: usize, last: usize) -> usize
+    requires { ⌜ a < last ⌝ }
+    ensures { λ e. ⌜ (a < e) × (e ≤ last) ⌝ }
+{
+    if last - a < 32 { last } else { a + 32 }
+}
+
 fn march_row(g: Grid, f: &[f32], level: f32, segs: &mut [u32], n: usize, j: usize) -> usize
     requires { ⌜ Over g (length (now f)) ⌝ }
     requires { ⌜ j + 1 < g .ny ⌝ }
     requires { ⌜ 2 * (n + 2 * g .nx) ≤ length (now segs) ⌝ }
     ensures { λ r. ⌜ Gathered (marchRow g (now (f .entry)) level j (segmentsOf n (now (segs .entry)))) (n + 2 * g .nx) (now (segs .entry)) r (now (segs .exit)) ⌝ }
 {
+    let last = g.nx - 1;
     let mut m = n;
-    for i in 0..g.nx - 1 {
-        m = march_square(g, f, level, segs, m, i, j);
+    let mut a = 0;
+    while a < last {
+        let e = run_end(a, last);
+        m = march_run(g, f, level, segs, m, a, e, j);
+        a = e;
     }
     m
 }

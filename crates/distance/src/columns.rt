@@ -9,7 +9,7 @@ ghost use Rattle.distance.specs.Column.{Down, Raised, fromAbove, fromBel
 pub const NONE: u32 = 4096;
 
 // The rows up to a mark at or above a cell, from those of the cell above it.
-fn from_above(byte: u8, mark: u8, above: u32) -> u32
+pub fn from_above(byte: u8, mark: u8, above: u32) -> u32
     ensures { λ r. ⌜ r ≡ fromAbove byte mark above ⌝ }
 {
     if byte == mark {
@@ -22,7 +22,7 @@ fn from_above(byte: u8, mark: u8, above: u32) -> u32
 }
 
 // The rows to a mark at, above or below a cell, from those of it and of the cell below it.
-fn from_below(here: u32, below: u32) -> u32
+pub fn from_below(here: u32, below: u32) -> u32
     ensures { λ r. ⌜ r ≡ fromBelow here below ⌝ }
 {
     if below < here {

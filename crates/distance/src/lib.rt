@@ -7,7 +7,7 @@ ghost use lib.ListN.{length};
 ghost use Rattle.distance.specs.Least.{Transformed, MapSides};
 ghost use Rattle.distance.specs.Nearest.{transformOf};
 
-mod columns;
+pub mod columns;
 pub mod limits;
 pub mod roots;
 mod rows;

@@ -6,28 +6,32 @@ use Prim.Native.Nat.{ℕ, _+_, _-_, _*_, _/_, _≤_, _<_, min}
 use native.Mathlib.Omega.{arith}
 use native.Mathlib.Nat.{add-mul, mul-le-mul, div-lt-iff-lt-mul, le-div-iff-mul-le}
 use lib.ListN.{length, getD, take, drop}
+use lib.Seq.{getD-take, getD-drop}
 use lib.Dec.{eqb, ltb}
 use lib.Ieee.{binary64, mul, lt, le}
-use borrow.Author.Tests.{ltb-true, ltb-false, le-ltb, le-leb}
+use borrow.Author.Tests.{ltb-true, ltb-false, lt-ltb, le-ltb, le-leb, eqb-true, eq-eqb}
 use Rattle.loops.specs.Cells.{number}
 use Rattle.loops.proofs.Cases.{by-cases, never}
-use Rattle.distance.specs.Least.{far, at, gap}
+use Rattle.dilation.specs.declared.window.Window.{Window}
+use Rattle.distance.specs.Least.{far, at, gap, apart}
 use Rattle.distance.specs.Limits.{scaledOf, passesOf}
 use Rattle.distance.specs.Nearest.{nearest, squaresOf}
 use Rattle.distance.specs.Rooted.{rootedOf}
 use Rattle.distance.specs.declared.limits.Limit.{Limit}
 use Rattle.distance.specs.declared.limits.Threshold.{Threshold}
 use Rattle.distance.proofs.LimitLaws.{beyond-is}
+use Rattle.distance.proofs.NearLaws.{nearest-far, nearest-over, square-of}
+use Rattle.raster.specs.declared.grid.Grid.{Grid}
 use Rattle.raster.proofs.GridLaws.{number-below}
+use Rattle.rims.specs.Tiles.{RowsGathered}
 use Rattle.setup.specs.Layout.{run}
 use Rattle.setup.specs.declared.Setup.{Setup}
 use Rattle.setup.proofs.PartLaws.{part-is}
-use Rattle.field.specs.Bands.{between, Inside, RowsOf, widened, Margin, Unmarked, MarkedRows, WantedRows}
+use Rattle.field.specs.Bands.{between, Inside, RowsOf, widened, Margin, Unmarked, MarkedRows, MarkedColumns, rowsOf, windowOf, Around, WantedIn}
 use Rattle.field.specs.Field.{highOf, reachOf, wantedAt}
 use Rattle.field.specs.Gauge.{Gauged}
 use Rattle.field.specs.declared.band.Band.{Band}
 use Rattle.field.specs.declared.gauge.Gauge.{Gauge}
-use Rattle.field.proofs.SplitLaws.{nearest-far, nearest-above, square-of}
 
 -- ---- margins
 
@@ -142,8 +146,8 @@ module _ (m : List ℕ) where
           }
 
 -- the dirty cells, as the part that is lent
-pub dirty-part : (nx ny n a : ℕ) (b : List ℕ) (band : Band) → n ≡ ny * nx → a ≡ 4 * n → MarkedRows (take (a + n - a) (drop a b)) nx ny band → MarkedRows (run 4 (ny * nx) b) nx ny band
-dirty-part nx ny n a b band N A M = subst (λ (q : List ℕ). MarkedRows q nx ny band) (part-is 4 n a (a + n) b A refl ∙ ap (λ (k : ℕ). run 4 k b) N) M
+pub dirty-part : (nx ny n a e : ℕ) (b : List ℕ) (w : Window) → n ≡ ny * nx → a ≡ 4 * n → Around (take (a + n - a) (drop a b)) nx ny e w → Around (run 4 (ny * nx) b) nx ny e w
+dirty-part nx ny n a e b w N A M = subst (λ (q : List ℕ). Around q nx ny e w) (part-is 4 n a (a + n) b A refl ∙ ap (λ (k : ℕ). run 4 k b) N) M
 
 -- ---- squares at or above a limit
 
@@ -161,6 +165,9 @@ module _ (g : Gauge) (h : Gauged g) (d : ℕ) (b : d ≤ far) where
 
 -- ---- the rows in which a cell may be wanted
 
+both-true : {a b : Bool} → a ≡ true → b ≡ true → a && b ≡ true
+both-true p q = rw (p, q) refl
+
 and-false : (a b : Bool) → b ≡ false → a && b ≡ false
 and-false true b e = e
 and-false false b e = refl
@@ -169,47 +176,102 @@ pub not-true : (b : Bool) → not b ≡ true → b ≡ false
 not-true true e = never e
 not-true false e = refl
 
--- all rows
-pub wanted-whole : (s : Setup) (all : Bool) (dirty : List ℕ) → WantedRows s all dirty (between 0 (s .grid .ny))
-wanted-whole s all dirty =
-    let rows : RowsOf (s .grid .ny) (between 0 (s .grid .ny)) = record { order = omega arith; high = omega arith } in
+-- the whole map
+pub wanted-whole : (s : Setup) (all : Bool) (dirty : List ℕ) → WantedIn s all dirty (windowOf (between 0 (s .grid .ny)) (between 0 (s .grid .nx)))
+wanted-whole s all dirty = record {
+  rows = record { order = omega arith; high = omega arith };
+  columns = record { order = omega arith; high = omega arith };
+  cut = λ _ i j h k e. record { low = omega arith; high = k; left = omega arith; right = h };
+  outside = λ allowed i j h k o. absurd (o (record { low = omega arith; high = k; left = omega arith; right = h }));
+}
+
+-- the window around the cells that were cut
+pub wanted-around : (g : Gauge) → Gauged g → g .all ≡ false → g .near .limit .told ≡ true → (dirty : List ℕ) (w : Window) → Around dirty (g .setup .grid .nx) (g .setup .grid .ny) (g .near .limit .below) w
+    → WantedIn (g .setup) (g .all) dirty w
+unfolding wantedAt
+wanted-around g h A t dirty w R =
+    let nx = g .setup .grid .nx in
+    let ny = g .setup .grid .ny in
     record {
-      rows = rows;
-      cut = λ _. record { rows = rows; marked = λ i j h k e. record { low = omega arith; high = k } };
-      outside = λ allowed i j h k o. absurd (o (record { low = omega arith; high = k }));
+      rows = R .rows;
+      columns = R .columns;
+      cut = λ _. R .marked;
+      outside = λ allowed i j p q o.
+          let above : g .near .limit .below ≤ nearest 1 dirty nx (at i j) ny = nearest-over dirty nx (at i j) (g .near .limit .below) (R .fits) ny (λ x k a b e. R .beyond i j x k p q o a b (eq-eqb _ _ e)) in
+          rw (A, square-of dirty nx ny i j p q)
+          (and-false (eqb (getD allowed (number nx i j) 0) 1) (le (rootedOf (nearest 1 dirty nx (at i j) ny)) (reachOf (g .setup)))
+          (near-out g h (nearest 1 dirty nx (at i j) ny) (nearest-far dirty nx (at i j) ny) t above));
     }
 
-module _ (g : Gauge) (h : Gauged g) (A : g .all ≡ false) (t : g .near .limit .told ≡ true) (dirty : List ℕ) (cut : Band) (C : MarkedRows dirty (g .setup .grid .nx) (g .setup .grid .ny) cut)
-    (m : ℕ) (M : Margin (g .near .limit) (g .setup .grid .ny) m) where
-  -- a cell is not wanted whose rows to each mark are more than the margin
-  not-wanted : (allowed : List ℕ) (i j : ℕ) → i < g .setup .grid .nx → j < g .setup .grid .ny → ((k : ℕ) → Inside cut k → m < gap j k)
-      → wantedAt (g .setup) (g .all) allowed (squaresOf 1 dirty (g .setup .grid .nx) (g .setup .grid .ny)) (number (g .setup .grid .nx) i j) ≡ false
-  unfolding wantedAt
-  not-wanted allowed i j p q f =
-      let nx = g .setup .grid .nx in
-      let ny = g .setup .grid .ny in
-      let above : g .near .limit .below ≤ nearest 1 dirty nx (at i j) ny =
-      nearest-above dirty nx i j ny (g .near .limit .below) (M .fits t) (λ x k a b e. M .beyond (gap j k) (f k (C .marked x k a b e)) (omega arith) .1) in
-      rw (A, square-of dirty nx ny i j p q)
-      (and-false (eqb (getD allowed (number nx i j) 0) 1) (le (rootedOf (nearest 1 dirty nx (at i j) ny)) (reachOf (g .setup)))
-      (near-out g h (nearest 1 dirty nx (at i j) ny) (nearest-far dirty nx (at i j) ny) t above))
+-- the cells that were cut are in its rows
+pub cut-rows : (s : Setup) (dirty : List ℕ) (w : Window) → WantedIn s false dirty w → MarkedRows dirty (s .grid .nx) (s .grid .ny) (rowsOf w)
+cut-rows s dirty w W = record { rows = W .rows; marked = λ i j p q e. let I = W .cut refl i j p q e in record { low = I .low; high = I .high } }
 
-  -- no cell was cut
-  pub wanted-none : cut .hi ≤ cut .lo → WantedRows (g .setup) (g .all) dirty cut
-  wanted-none e = record {
-    rows = C .rows;
-    cut = λ _. C;
-    outside = λ allowed i j p q o. not-wanted allowed i j p q (λ k n. absurd (let a = n .low in let b = n .high in omega arith));
-  }
+-- ---- the columns that have marks
 
-  pub wanted-widened : (band : Band) → band ≡ widened (g .setup .grid .ny) m cut → WantedRows (g .setup) (g .all) dirty band
-  wanted-widened band e =
-      let ny = g .setup .grid .ny in
-      let order = C .rows .order in
-      let high = C .rows .high in
-      let rows = wide-rows ny m cut band e order high in
+-- the columns of the marks, as the part that is lent, are a map of one column
+pub columns-are : (g : Grid) (m : List ℕ) (rows band : Band) (t : List ℕ) → RowsOf (g .ny) rows → RowsGathered g m (rows .lo) (rows .hi) t → MarkedRows (take (g .nx - 0) (drop 0 t)) 1 (g .nx) band
+    → MarkedColumns m (g .nx) rows band
+columns-are g m rows band t R h M = record {
+  columns = M .rows;
+  marked = λ i k a I e.
+      let one : i * 1 + 0 ≡ i = omega arith in
+      M .marked 0 i (omega arith) a
+      (ap (λ (x : ℕ). eqb (getD (take (g .nx - 0) (drop 0 t)) x 0) 1) one
+      ∙ ap (λ (x : ℕ). eqb x 1) (getD-take (g .nx - 0) (drop 0 t) i 0 (omega arith) ∙ getD-drop 0 t i 0 ∙ ap (λ (x : ℕ). getD t x 0) (let z : 0 + i ≡ i = omega arith in z))
+      ∙ eq-eqb _ _ (h .at i k a (omega (arith, I .high, R .high)) (I .low) (I .high) (eqb-true _ _ e)));
+}
+
+-- ---- around the marks
+
+module _ (m : List ℕ) (nx ny : ℕ) (l : Limit) (t : l .told ≡ true) (rows cols : Band) (R : MarkedRows m nx ny rows) (C : MarkedColumns m nx rows cols) where
+  marked-in : (i j : ℕ) → i < nx → j < ny → eqb (getD m (number nx i j) 0) 1 ≡ true → Inside rows j × Inside cols i
+  marked-in i j p q e = let r = R .marked i j p q e in (r, C .marked i j p r e)
+
+  -- there is none
+  pub around-none : (k : ℕ) → Margin l ny k → ltb (rows .lo) (rows .hi) && ltb (cols .lo) (cols .hi) ≡ false → Around m nx ny (l .below) (windowOf (between 0 0) (between 0 0))
+  around-none k F h =
+      let no : (i j : ℕ) → i < nx → j < ny → eqb (getD m (number nx i j) 0) 1 ≡ true → ⊥ =
+      λ i j p q e.
+      let r = marked-in i j p q e in
+      let a = lt-ltb (rows .lo) (rows .hi) (omega (arith, r .0 .low, r .0 .high)) in
+      let b = lt-ltb (cols .lo) (cols .hi) (omega (arith, r .1 .low, r .1 .high)) in
+      true≢false (sym (both-true a b) ∙ h) in
       record {
-        rows = rows;
-        cut = λ _. record { rows = rows; marked = λ i j p q s. wide-inside ny m cut band e order high j (C .marked i j p q s) };
-        outside = λ allowed i j p q o. not-wanted allowed i j p q (λ k n. wide-gap ny m cut band e order high j k n o q);
+        rows = record { order = omega arith; high = omega arith };
+        columns = record { order = omega arith; high = omega arith };
+        marked = λ i j p q e. absurd (no i j p q e);
+        fits = F .fits t;
+        beyond = λ i j x y p q o a b e. absurd (no x y a b e);
       }
+
+  pub around-some : (k n : ℕ) → Margin l ny k → Margin l nx n → (r c : Band) → r ≡ widened ny k rows → c ≡ widened nx n cols → Around m nx ny (l .below) (windowOf r c)
+  around-some k n F G r c P Q =
+      let ro = R .rows .order in
+      let rh = R .rows .high in
+      let co = C .columns .order in
+      let ch = C .columns .high in
+      record {
+        rows = wide-rows ny k rows r P ro rh;
+        columns = wide-rows nx n cols c Q co ch;
+        marked = λ i j p q e.
+            let x = marked-in i j p q e in
+            let a = wide-inside ny k rows r P ro rh j (x .0) in
+            let b = wide-inside nx n cols c Q co ch i (x .1) in
+            record { low = a .low; high = a .high; left = b .low; right = b .high };
+        fits = F .fits t;
+        beyond = λ i j x y p q o a b e.
+            let z = marked-in x y a b e in
+            by-cases (ltb j (r .lo))
+            (λ s. row-far i j x y q b a e (λ I. let u = I .low in let v = ltb-true j (r .lo) s in omega arith))
+            (λ s. by-cases (ltb j (r .hi))
+            (λ w.
+            let v = G .beyond (gap i x) (wide-gap nx n cols c Q co ch i x (z .1) (λ I. o (record { low = ltb-false j (r .lo) s; high = ltb-true j (r .hi) w; left = I .low; right = I .high })) p) (omega arith) in
+            omega (arith, v .1))
+            (λ w. row-far i j x y q b a e (λ I. let u = I .high in let v = ltb-false j (r .hi) w in omega arith)));
+      }
+    where
+      row-far : (i j x y : ℕ) → j < ny → y < ny → (x < nx) → eqb (getD m (number nx x y) 0) 1 ≡ true → (Inside r j → ⊥) → l .below ≤ apart (at i j) (at x y)
+      row-far i j x y q b a e o =
+          let v = F .beyond (gap j y) (wide-gap ny k rows r P (R .rows .order) (R .rows .high) j y (R .marked x y a b e) o q) (omega arith) in
+          omega (arith, v .1)

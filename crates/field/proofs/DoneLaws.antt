@@ -16,14 +16,14 @@ use Rattle.setup.specs.Tables.{Tables}
 use Rattle.setup.specs.declared.Setup.{Setup}
 use Rattle.setup.proofs.LayoutLaws.{run-put, run-other}
 use Rattle.setup.proofs.PartLaws.{part-is, part-long, run-long, back-is, put-run-long}
-use Rattle.field.specs.Bands.{WantedRows, bandRows}
+use Rattle.dilation.specs.declared.window.Window.{Window}
+use Rattle.field.specs.Bands.{WantedIn, windowRows}
 use Rattle.field.specs.Field.{Sensed, sensed, fieldOf}
 use Rattle.field.specs.Gauge.{Sensing}
 use Rattle.field.specs.Round.{Ready, rowsIn, Rowed, roundOf, Done}
 use Rattle.field.specs.Squares.{Measured}
-use Rattle.field.specs.declared.band.Band.{Band}
 use Rattle.field.specs.declared.gauge.Gauge.{Gauge}
-use Rattle.field.proofs.SweepLaws.{band-sweep}
+use Rattle.field.proofs.SweepLaws.{window-sweep}
 
 -- ---- the rows, over parts
 
@@ -56,25 +56,25 @@ module _ (s : Setup) (b u : List ℕ) (w f : List Float) (h : Ready s b u w f) (
         tables = subst (Tables s) (sym rim-is) (h .tables);
       }
 
-  pub rowed-is : (all : Bool) (band : Band) (t : List Float) (m : ℕ) → sensed t m ≡ bandRows s all (front n b) (piece a n b) (front n u) (piece d n u) band (sensed (front n f) 0)
-      → Rowed s all band b u f m (putMid 0 (n - 0) f t)
+  pub rowed-is : (all : Bool) (x : Window) (t : List Float) (m : ℕ) → sensed t m ≡ windowRows s all (front n b) (piece a n b) (front n u) (piece d n u) x (sensed (front n f) 0)
+      → Rowed s all x b u f m (putMid 0 (n - 0) f t)
   unfolding rowsIn
-  rowed-is all band t m E =
+  rowed-is all x t m E =
       let l = all-lent in
-      let e : sensed t m ≡ rowsIn s all band b u f =
+      let e : sensed t m ≡ rowsIn s all x b u f =
       E
-      ∙ ap (λ (q : List ℕ). bandRows s all q (piece a n b) (front n u) (piece d n u) band (sensed (front n f) 0)) (part-is 0 n 0 n b (omega arith) (omega arith))
-      ∙ ap (λ (q : List ℕ). bandRows s all (run 0 n b) q (front n u) (piece d n u) band (sensed (front n f) 0)) (part-is 1 n a (a + n) b A refl)
-      ∙ ap (λ (q : List ℕ). bandRows s all (run 0 n b) (run 1 n b) q (piece d n u) band (sensed (front n f) 0)) (part-is 0 n 0 n u (omega arith) (omega arith))
-      ∙ ap (λ (q : List ℕ). bandRows s all (run 0 n b) (run 1 n b) (run 0 n u) q band (sensed (front n f) 0)) (part-is 1 n d (d + n) u D refl)
-      ∙ ap (λ (q : List Float). bandRows s all (run 0 n b) (run 1 n b) (run 0 n u) (run 1 n u) band (sensed q 0)) (part-is 0 n 0 n f (omega arith) (omega arith))
-      ∙ ap (λ (k : ℕ). bandRows s all (run 0 k b) (run 1 k b) (run 0 k u) (run 1 k u) band (sensed (run 0 k f) 0)) N in
+      ∙ ap (λ (q : List ℕ). windowRows s all q (piece a n b) (front n u) (piece d n u) x (sensed (front n f) 0)) (part-is 0 n 0 n b (omega arith) (omega arith))
+      ∙ ap (λ (q : List ℕ). windowRows s all (run 0 n b) q (front n u) (piece d n u) x (sensed (front n f) 0)) (part-is 1 n a (a + n) b A refl)
+      ∙ ap (λ (q : List ℕ). windowRows s all (run 0 n b) (run 1 n b) q (piece d n u) x (sensed (front n f) 0)) (part-is 0 n 0 n u (omega arith) (omega arith))
+      ∙ ap (λ (q : List ℕ). windowRows s all (run 0 n b) (run 1 n b) (run 0 n u) q x (sensed (front n f) 0)) (part-is 1 n d (d + n) u D refl)
+      ∙ ap (λ (q : List Float). windowRows s all (run 0 n b) (run 1 n b) (run 0 n u) (run 1 n u) x (sensed q 0)) (part-is 0 n 0 n f (omega arith) (omega arith))
+      ∙ ap (λ (k : ℕ). windowRows s all (run 0 k b) (run 1 k b) (run 0 k u) (run 1 k u) x (sensed (run 0 k f) 0)) N in
       record {
         sampled = ap (λ (q : Sensed). q .sampled) e;
         singles =
             back-is 0 n 0 n f t (omega arith) (omega arith) (omega arith)
             ∙ ap (λ (q : Sensed). putRun 0 n (q .field) f) e
-            ∙ ap (λ (k : ℕ). putRun 0 k (rowsIn s all band b u f .field) f) N;
+            ∙ ap (λ (k : ℕ). putRun 0 k (rowsIn s all x b u f .field) f) N;
       }
 
 -- ---- what the rows start from
@@ -100,7 +100,7 @@ module _ (n : ℕ) (f f′ : List Float) (l : 2 * n ≤ length f) where
 
 -- ---- the round
 
-module _ (s : Setup) (all : Bool) (b u : List ℕ) (w f : List Float) (h : Ready s b u w f) (band : Band) (W : WantedRows s all (run 4 (cellsOf s) b) band) (u′ : List ℕ) (M : Measured s all band b u u′)
+module _ (s : Setup) (all : Bool) (b u : List ℕ) (w f : List Float) (h : Ready s b u w f) (x : Window) (W : WantedIn s all (run 4 (cellsOf s) b) x) (u′ : List ℕ) (M : Measured s all x b u u′)
     (f′ : List Float) (F : f′ ≡ cond all (putRun 0 (cellsOf s) (replicate (cellsOf s) nan) f) f) (b′ : List ℕ) (C : b′ ≡ putRun 4 (cellsOf s) (replicate (cellsOf s) 0) b) where
   -- what the rows ask for
   ready-then : Ready s b′ u′ w f′
@@ -117,18 +117,18 @@ module _ (s : Setup) (all : Bool) (b u : List ℕ) (w f : List Float) (h : Ready
   other : (j : ℕ) → j < 4 → run j (cellsOf s) b′ ≡ run j (cellsOf s) b
   other j d = ap (run j (cellsOf s)) C ∙ run-other (cellsOf s) b (replicate (cellsOf s) 0) (length-replicate (cellsOf s) 0) 4 j (omega (arith, h .lent .bytes)) (λ e. omega arith)
 
-  same-rows : rowsIn s all band b′ u′ f′ ≡ roundOf s all b f
+  same-rows : rowsIn s all x b′ u′ f′ ≡ roundOf s all b f
   unfolding rowsIn roundOf fieldOf
   same-rows =
       let n = cellsOf s in
       let nx = s .grid .nx in
       let ny = s .grid .ny in
-      ap (λ (m : List ℕ). bandRows s all m (run 1 n b′) (run 0 n u′) (run 1 n u′) band (sensed (run 0 n f′) 0)) (other 0 (omega arith))
-      ∙ ap (λ (m : List ℕ). bandRows s all (run 0 n b) m (run 0 n u′) (run 1 n u′) band (sensed (run 0 n f′) 0)) (other 1 (omega arith))
-      ∙ ap (λ (m : List Float). bandRows s all (run 0 n b) (run 1 n b) (run 0 n u′) (run 1 n u′) band (sensed m 0)) (begun-run n f f′ (h .lent .singles) all F)
-      ∙ band-sweep s all (run 0 n b) (run 1 n b) (run 0 n u′) (run 1 n u′) (squaresOf 1 (run 0 n b) nx ny) (squaresOf 1 (run 4 n b) nx ny) band _ (M .value) (M .wanted) (W .outside (run 1 n b))
+      ap (λ (m : List ℕ). windowRows s all m (run 1 n b′) (run 0 n u′) (run 1 n u′) x (sensed (run 0 n f′) 0)) (other 0 (omega arith))
+      ∙ ap (λ (m : List ℕ). windowRows s all (run 0 n b) m (run 0 n u′) (run 1 n u′) x (sensed (run 0 n f′) 0)) (other 1 (omega arith))
+      ∙ ap (λ (m : List Float). windowRows s all (run 0 n b) (run 1 n b) (run 0 n u′) (run 1 n u′) x (sensed m 0)) (begun-run n f f′ (h .lent .singles) all F)
+      ∙ window-sweep s all (run 0 n b) (run 1 n b) (run 0 n u′) (run 1 n u′) (squaresOf 1 (run 0 n b) nx ny) (squaresOf 1 (run 4 n b) nx ny) x _ (M .value) (M .wanted) (W .outside (run 1 n b))
 
-  done-is : (r : ℕ) (f″ : List Float) → Rowed s all band b′ u′ f′ r f″ → Done s all b u f r b′ u′ f″
+  done-is : (r : ℕ) (f″ : List Float) → Rowed s all x b′ u′ f′ r f″ → Done s all b u f r b′ u′ f″
   done-is r f″ R =
       let e = same-rows in
       record {
@@ -146,16 +146,16 @@ module _ (g : Gauge) (s : Setup) (all : Bool) (S : g .setup ≡ s) (A : g .all �
   pub gauge-ready : Ready (g .setup) b u w f
   gauge-ready = subst (λ (q : Setup). Ready q b u w f) (sym S) h
 
-  module _ (band : Band) (W : WantedRows (g .setup) (g .all) (run 4 (cellsOf (g .setup)) b) band) (u′ : List ℕ) (M : Measured (g .setup) (g .all) band b u u′)
+  module _ (x : Window) (W : WantedIn (g .setup) (g .all) (run 4 (cellsOf (g .setup)) b) x) (u′ : List ℕ) (M : Measured (g .setup) (g .all) x b u u′)
       (f′ : List Float) (F : f′ ≡ cond all (putRun 0 (cellsOf s) (replicate (cellsOf s) nan) f) f) (b′ : List ℕ) (C : b′ ≡ putRun 4 (cellsOf s) (replicate (cellsOf s) 0) b) where
-    wanted-now : WantedRows s all (run 4 (cellsOf s) b) band
-    wanted-now = by-gauge (λ q a. WantedRows q a (run 4 (cellsOf q) b) band) W
+    wanted-now : WantedIn s all (run 4 (cellsOf s) b) x
+    wanted-now = by-gauge (λ q a. WantedIn q a (run 4 (cellsOf q) b) x) W
 
-    measured-now : Measured s all band b u u′
-    measured-now = by-gauge (λ q a. Measured q a band b u u′) M
+    measured-now : Measured s all x b u u′
+    measured-now = by-gauge (λ q a. Measured q a x b u u′) M
 
     pub rows-ask : Ready (g .setup) b′ u′ w f′
-    rows-ask = subst (λ (q : Setup). Ready q b′ u′ w f′) (sym S) (ready-then s all b u w f h band wanted-now u′ measured-now f′ F b′ C)
+    rows-ask = subst (λ (q : Setup). Ready q b′ u′ w f′) (sym S) (ready-then s all b u w f h x wanted-now u′ measured-now f′ F b′ C)
 
-    pub done-by : (r : ℕ) (f″ : List Float) → Rowed (g .setup) (g .all) band b′ u′ f′ r f″ → Done s all b u f r b′ u′ f″
-    done-by r f″ R = done-is s all b u w f h band wanted-now u′ measured-now f′ F b′ C r f″ (by-gauge (λ q a. Rowed q a band b′ u′ f′ r f″) R)
+    pub done-by : (r : ℕ) (f″ : List Float) → Rowed (g .setup) (g .all) x b′ u′ f′ r f″ → Done s all b u f r b′ u′ f″
+    done-by r f″ R = done-is s all b u w f h x wanted-now u′ measured-now f′ F b′ C r f″ (by-gauge (λ q a. Rowed q a x b′ u′ f′ r f″) R)

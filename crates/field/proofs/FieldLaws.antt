@@ -2,7 +2,7 @@
 use mathlib.Core.Path.{_≡_, refl, sym, ap, _∙_, subst}
 use mathlib.Core.Bool.{Bool, true, false, cond, true≢false}
 use mathlib.Core.List.{List}
-use Prim.Native.Nat.{ℕ, _+_, _-_, _*_, _≤_, _<_, max}
+use Prim.Native.Nat.{min, ℕ, _+_, _-_, _*_, _≤_, _<_, max}
 use native.Mathlib.Omega.{arith}
 use native.Mathlib.Nat.{add-mul}
 use lib.ListN.{length, getD, set, length-set, replicate, length-replicate, getD-replicate}
@@ -15,6 +15,8 @@ use Rattle.loops.proofs.Cases.{by-cases}
 use Rattle.loops.proofs.LoopLaws.{loop-end, loop-keeps, loop-both}
 use Rattle.distance.specs.Nearest.{squaresOf}
 use Rattle.setup.specs.declared.Setup.{Setup}
+use Rattle.dilation.specs.declared.window.Window.{Window}
+use Rattle.field.specs.Bands.{windowRow}
 use Rattle.field.specs.Field.{valueAt, wantedAt, Sensed, sensed, putValue, fieldCell, fieldRow, fieldRows, fieldOf}
 use Rattle.field.specs.declared.gauge.Value.{Value}
 
@@ -37,27 +39,34 @@ module _ (s : Setup) (all : Bool) (map allowed stock near : List ℕ) (L : ℕ) 
   unfolding fieldCell
   cell-swept j i n t h = cell-cases L n (number (s .grid .nx) i j) (valueAt s map stock i j) (wantedAt s all allowed near (number (s .grid .nx) i j)) t h
 
-  -- the cells of row j before cell k
-  pub row-run : (j k : ℕ) (t : Sensed) → 1 ≤ k → Swept L (j * s .grid .nx) t → Swept L (j * s .grid .nx + k) (loop (fieldCell s all map allowed stock near j) 1 k t)
-  row-run j k t a h =
-      loop-both (fieldCell s all map allowed stock near j) (fieldCell s all map allowed stock near j) (λ i u v. Swept L (j * s .grid .nx + i) u) 1 k a
+  -- the cells of row j from cell a on, before cell k
+  pub row-run : (j a k : ℕ) (t : Sensed) → a ≤ k → Swept L (j * s .grid .nx) t → Swept L (j * s .grid .nx + k) (loop (fieldCell s all map allowed stock near j) a k t)
+  row-run j a k t o h =
+      loop-both (fieldCell s all map allowed stock near j) (fieldCell s all map allowed stock near j) (λ i u v. Swept L (j * s .grid .nx + i) u) a k o
       (λ i u v b c q. let z = cell-swept j i (j * s .grid .nx + i) u q in record { long = z .long; few = omega (arith, z .few) })
       t t (record { long = h .long; few = omega (arith, h .few) })
 
-  pub row-swept : (j : ℕ) (t : Sensed) → 0 < s .grid .nx → Swept L (j * s .grid .nx) t → Swept L ((j + 1) * s .grid .nx) (fieldRow s all map allowed stock near j t)
-  unfolding fieldRow
-  row-swept j t a h =
-      let k = max 1 (s .grid .nx - 1) in
-      let z = row-run j k t (omega arith) h in
-      let e = loop-end (fieldCell s all map allowed stock near j) 1 k (s .grid .nx - 1) t (omega arith) (omega arith) (omega arith) in
-      let q = subst (Swept L (j * s .grid .nx + k)) e z in
-      record { long = q .long; few = omega (arith, q .few, add-mul j 1 (s .grid .nx)) }
+  -- a row's cells from cell a on, before cell e
+  cells-swept : (j a e : ℕ) (t : Sensed) → a ≤ s .grid .nx → e ≤ s .grid .nx → Swept L (j * s .grid .nx) t → Swept L ((j + 1) * s .grid .nx) (loop (fieldCell s all map allowed stock near j) a e t)
+  cells-swept j a e t p q h =
+      let k = max a e in
+      let z = row-run j a k t (omega arith) h in
+      let r = subst (Swept L (j * s .grid .nx + k)) (loop-end (fieldCell s all map allowed stock near j) a k e t (omega arith) (omega arith) (omega arith)) z in
+      record { long = r .long; few = omega (arith, r .few, add-mul j 1 (s .grid .nx)) }
 
-  -- the rows from row a on, before row k
+  -- rows that are gone through from row a on, before row k, each with at most its cells sampled
+  rows-swept : (f : ℕ → Sensed → Sensed) → ((j : ℕ) (u : Sensed) → Swept L (j * s .grid .nx) u → Swept L ((j + 1) * s .grid .nx) (f j u))
+      → (a k : ℕ) (t : Sensed) → a ≤ k → Swept L 0 t → Swept L (k * s .grid .nx) (loop f a k t)
+  rows-swept f r a k t b h = loop-both f f (λ j u v. Swept L (j * s .grid .nx) u) a k b (λ j u v c d q. r j u q) t t (record { long = h .long; few = omega (arith, h .few) })
+
   pub rows-run : (a k : ℕ) (t : Sensed) → 0 < s .grid .nx → a ≤ k → Swept L 0 t → Swept L (k * s .grid .nx) (loop (fieldRow s all map allowed stock near) a k t)
-  rows-run a k t w b h =
-      loop-both (fieldRow s all map allowed stock near) (fieldRow s all map allowed stock near) (λ j u v. Swept L (j * s .grid .nx) u) a k b
-      (λ j u v c d q. row-swept j u w q) t t (record { long = h .long; few = omega (arith, h .few) })
+  unfolding fieldRow
+  rows-run a k t w b h = rows-swept (fieldRow s all map allowed stock near) (λ j u q. cells-swept j 1 (s .grid .nx - 1) u w (omega arith) q) a k t b h
+
+  pub window-run : (w : Window) → w .left ≤ s .grid .nx → 0 < s .grid .nx → (a k : ℕ) (t : Sensed) → a ≤ k → Swept L 0 t → Swept L (k * s .grid .nx) (loop (windowRow s all map allowed stock near w) a k t)
+  unfolding windowRow
+  window-run w o p a k t b h =
+      rows-swept (windowRow s all map allowed stock near w) (λ j u q. cells-swept j (max 1 (w .left)) (min (w .right) (s .grid .nx - 1)) u (omega arith) (omega arith) q) a k t b h
 
   pub rows-long : (t : Sensed) → length (t .field) ≡ L → length (fieldRows s all map allowed stock near t .field) ≡ L
   unfolding fieldRows fieldRow

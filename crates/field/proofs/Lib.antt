@@ -5,5 +5,6 @@ pub mod SplitLaws
 pub mod BandLaws
 pub mod RoundLaws
 pub mod SquareLaws
+pub mod ShadedLaws
 pub mod SweepLaws
 pub mod DoneLaws

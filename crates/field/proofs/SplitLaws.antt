@@ -3,18 +3,17 @@ use mathlib.Core.Path.{_≡_, refl, ap, _∙_}
 use mathlib.Core.Bool.{true, cond}
 use mathlib.Core.List.{List}
 use mathlib.Core.Logic.{_⊎_, inl, inr}
-use Prim.Native.Nat.{ℕ, zero, suc, _+_, _-_, _*_, _%_, _/_, _≤_, _<_, min}
+use Prim.Native.Nat.{ℕ, zero, suc, _+_, _-_, _*_, _≤_, _<_, min}
 use native.Mathlib.Omega.{arith}
-use native.Mathlib.Nat.{add-mul, mul-add-div-right, div-eq-of-lt}
+use native.Mathlib.Nat.{add-mul}
 use lib.ListN.{getD}
 use lib.Dec.{eqb, ltb}
 use borrow.Author.Tests.{ltb-true, ltb-false}
 use Rattle.loops.specs.Cells.{number}
 use Rattle.loops.proofs.Cases.{by-cases, by-test}
 use Rattle.distance.specs.Least.{far, Cell, at, gap, square, apart}
-use Rattle.distance.specs.Nearest.{nearestInRow, nearest, squaresOf}
-use Rattle.distance.proofs.NearestLaws.{listed-at}
-use Rattle.raster.proofs.GridLaws.{number-below, column-back}
+use Rattle.distance.specs.Nearest.{nearestInRow, nearest}
+use Rattle.raster.proofs.GridLaws.{number-below}
 
 -- ---- the least of r over the numbers below n, at most `far`
 
@@ -60,30 +59,11 @@ unfolding nearest lowest
 rows-lowest m nx c zero = refl
 rows-lowest m nx c (suc n) = ap (λ (x : ℕ). min (nearest 1 m nx c n) x) (row-lowest m nx c n nx) ∙ ap (λ (x : ℕ). min x (rowSquare m nx c n)) (rows-lowest m nx c n)
 
-pub nearest-far : (m : List ℕ) (nx : ℕ) (c : Cell) (n : ℕ) → nearest 1 m nx c n ≤ far
-nearest-far m nx c n = omega (arith, rows-lowest m nx c n, lowest-far (rowSquare m nx c) n)
-
--- the squares by cell
-pub square-of : (m : List ℕ) (nx ny i j : ℕ) → i < nx → j < ny → getD (squaresOf 1 m nx ny) (number nx i j) 0 ≡ nearest 1 m nx (at i j) ny
-unfolding squaresOf
-square-of m nx ny i j h k =
-    let z : 0 < nx = omega arith in
-    let e : (j * nx + i) / nx ≡ j = mul-add-div-right z j i ∙ (let q : i / nx ≡ 0 = div-eq-of-lt h in omega arith) in
-    listed-at (λ k. nearest 1 m nx (at (k % nx) (k / nx)) ny) 0 (ny * nx) (number nx i j) (number-below nx ny i j (ny * nx) h k (omega arith))
-    ∙ ap (λ (x : ℕ). nearest 1 m nx (at x ((j * nx + i) / nx)) ny) (column-back nx i j h)
-    ∙ ap (λ (x : ℕ). nearest 1 m nx (at i x) ny) e
-
--- a row is no nearer than b if each of its marks is at least as far by rows alone
-row-above : (m : List ℕ) (nx i j k b : ℕ) → b ≤ far → ((x : ℕ) → x < nx → eqb (getD m (number nx x k) 0) 1 ≡ true → b ≤ square (gap j k)) → b ≤ rowSquare m nx (at i j) k
-row-above m nx i j k b h f =
+-- a row is no nearer than b if none of its marks is
+row-over : (m : List ℕ) (nx i j k b : ℕ) → b ≤ far → ((x : ℕ) → x < nx → eqb (getD m (number nx x k) 0) 1 ≡ true → b ≤ apart (at i j) (at x k)) → b ≤ rowSquare m nx (at i j) k
+row-over m nx i j k b h f =
     lowest-above (cellSquare m nx (at i j) k) b nx h
-    (λ x l. by-test (λ (v : ℕ). b ≤ v) (eqb (getD m (number nx x k) 0) 1) (apart (at i j) (at x k)) far (λ e. let z = f x l e in omega arith) (λ e. h))
-
--- nor is a map
-pub nearest-above : (m : List ℕ) (nx i j n b : ℕ) → b ≤ far → ((x k : ℕ) → x < nx → k < n → eqb (getD m (number nx x k) 0) 1 ≡ true → b ≤ square (gap j k)) → b ≤ nearest 1 m nx (at i j) n
-nearest-above m nx i j n b h f =
-    let z = lowest-above (rowSquare m nx (at i j)) b n h (λ k l. row-above m nx i j k b h (λ x q e. f x k q l e)) in
-    omega (arith, rows-lowest m nx (at i j) n)
+    (λ x l. by-test (λ (v : ℕ). b ≤ v) (eqb (getD m (number nx x k) 0) 1) (apart (at i j) (at x k)) far (λ e. f x l e) (λ e. h))
 
 -- q is the least of the band, between what lies before it and behind it
 either-way : (q p front before here behind b : ℕ) → p ≡ min front behind → front ≡ min before here → q ≡ here → b ≤ before → b ≤ behind → (q ≡ p) ⊎ ((b ≤ q) × (b ≤ p))
@@ -118,5 +98,5 @@ module _ (m p : List ℕ) (nx lo d : ℕ) (P : (x : ℕ) → x < d * nx → getD
       (rows-lowest m nx (at i j) ny ∙ ap (lowest r) (let z : ny ≡ lo + d + e = omega arith in z) ∙ lowest-split r (lo + d) e)
       (lowest-split r lo d)
       band-rows
-      (lowest-above r b lo B (λ k l. row-above m nx i j k b B (λ x q t. f x k q (omega arith) (inl l) t)))
-      (lowest-above (λ k. r (lo + d + k)) b e B (λ k l. row-above m nx i j (lo + d + k) b B (λ x q t. f x (lo + d + k) q (omega arith) (inr (omega arith)) t)))
+      (lowest-above r b lo B (λ k l. row-over m nx i j k b B (λ x q t. let z = f x k q (omega arith) (inl l) t in omega arith)))
+      (lowest-above (λ k. r (lo + d + k)) b e B (λ k l. row-over m nx i j (lo + d + k) b B (λ x q t. let z = f x (lo + d + k) q (omega arith) (inr (omega arith)) t in omega arith)))

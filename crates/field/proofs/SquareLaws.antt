@@ -8,7 +8,7 @@ use native.Mathlib.Omega.{arith}
 use native.Mathlib.Nat.{add-mul, mul-le-mul-right}
 use lib.ListN.{length, getD, take, drop, List·getD-append}
 use lib.Seq.{getD-take, getD-drop, getD-append-add, length-take-le}
-use lib.Ieee.{binary64, mul, lt}
+use lib.Ieee.{binary64, mul, lt, le}
 use borrow.Author.Tests.{eqb-true, eq-eqb}
 use borrow.Rule.Slice.PartMut.{putMid}
 use Rattle.loops.specs.Cells.{number}
@@ -17,23 +17,26 @@ use Rattle.loops.specs.Frame.{Only}
 use Rattle.loops.proofs.Cases.{by-cases, never}
 use Rattle.loops.proofs.RegionLaws.{region-long, put-is}
 use Rattle.loops.proofs.FrameLaws.{put-only, only-same, only-more, only-before, only-wider}
+use Rattle.dilation.specs.Window.{In}
+use Rattle.dilation.specs.declared.window.Window.{Window}
 use Rattle.distance.specs.Least.{far, at, gap, square, MapSides}
 use Rattle.distance.specs.Nearest.{nearest, squaresOf, transformOf}
 use Rattle.distance.specs.Rooted.{rootedOf}
 use Rattle.distance.proofs.NearestLaws.{squares-long, transform-long}
+use Rattle.distance.proofs.NearLaws.{nearest-far, square-of}
 use Rattle.raster.specs.Grid.{Sides}
 use Rattle.raster.specs.declared.grid.Grid.{Grid}
 use Rattle.raster.proofs.GridLaws.{number-below}
 use Rattle.setup.specs.Layout.{run}
 use Rattle.setup.specs.Place.{cellsOf}
 use Rattle.setup.specs.declared.Setup.{Setup}
-use Rattle.field.specs.Bands.{Inside, widened, Margin, MarkedRows}
-use Rattle.field.specs.Field.{highOf, valueOf, valueAt, wantedAt}
+use Rattle.field.specs.Bands.{Inside, RowsOf, widened, Margin, MarkedRows, rowsOf, columnsOf}
+use Rattle.field.specs.Field.{highOf, reachOf, valueOf, valueAt, wantedAt}
 use Rattle.field.specs.Gauge.{Gauged}
-use Rattle.field.specs.Squares.{squaresPut, Stocked, Neared, Measured}
+use Rattle.field.specs.Squares.{squaresPut, StockedRows, NearedRows, Stocked, Neared, Measured}
 use Rattle.field.specs.declared.band.Band.{Band}
 use Rattle.field.specs.declared.gauge.Gauge.{Gauge}
-use Rattle.field.proofs.SplitLaws.{nearest-far, band-square, square-of}
+use Rattle.field.proofs.SplitLaws.{band-square}
 use Rattle.field.proofs.BandLaws.{wide-rows, wide-some, wide-inside, wide-gap, far-out}
 use Rattle.field.proofs.RoundLaws.{wide-cells}
 
@@ -132,7 +135,7 @@ module _ (g : Grid) (S : Sides g) (band : Band) (b u : List ℕ) (O : band .lo <
   near-fits : 1 * (g .ny * g .nx) + (g .ny * g .nx + 3 * g .nx) ≤ length u
   near-fits = omega (arith, wide-cells g S)
 
-  near-put : Neared g band b u (squaresPut (g .nx) band (4 * (g .ny * g .nx)) (1 * (g .ny * g .nx)) b u)
+  near-put : NearedRows g band b u (squaresPut (g .nx) band (4 * (g .ny * g .nx)) (1 * (g .ny * g .nx)) b u)
   near-put =
       let n = g .ny * g .nx in
       let nx = g .nx in
@@ -153,9 +156,9 @@ module _ (g : Grid) (S : Sides g) (band : Band) (b u : List ℕ) (O : band .lo <
             (squares-are nx ny band (4 * n) (1 * n) b u O H near-fits i j far h I (omega arith) (λ x k X K o e. absurd (o (M .marked x k X K (eq-eqb _ _ e)))));
       }
 
-  pub near-is : (n a c : ℕ) (v : List ℕ) → n ≡ g .ny * g .nx → a ≡ 4 * n → c ≡ 1 * n → v ≡ squaresPut (g .nx) band a c b u → Neared g band b u v
+  pub near-is : (n a c : ℕ) (v : List ℕ) → n ≡ g .ny * g .nx → a ≡ 4 * n → c ≡ 1 * n → v ≡ squaresPut (g .nx) band a c b u → NearedRows g band b u v
   near-is n a c v N A C e =
-      subst (Neared g band b u)
+      subst (NearedRows g band b u)
       (sym (e ∙ ap (λ (z : ℕ). squaresPut (g .nx) band z c b u) (A ∙ ap (λ (z : ℕ). 4 * z) N) ∙ ap (λ (z : ℕ). squaresPut (g .nx) band (4 * (g .ny * g .nx)) z b u) (C ∙ ap (λ (z : ℕ). 1 * z) N)))
       near-put
 
@@ -206,7 +209,7 @@ module _ (g : Gauge) (h : Gauged g) (S : Sides (g .setup .grid)) (band : Band) (
       (squares-are nx ny wide (0 * n) (0 * n) b u some high stock-fits i j far p J (omega arith)
       (λ x k X K o e. never (sym t ∙ M .beyond (gap j k) (gap-over j k I o K) (omega arith) .0)))))
 
-  stock-put : Stocked (g .setup) band b u stockWords
+  stock-put : StockedRows (g .setup) band b u stockWords
   stock-put =
       let n = cellsOf (g .setup) in
       let nx = g .setup .grid .nx in
@@ -220,29 +223,29 @@ module _ (g : Gauge) (h : Gauged g) (S : Sides (g .setup .grid)) (band : Band) (
         value = λ i j p I. value-alike (g .setup) (run 0 n b) (run 0 n stockWords) (squaresOf 1 (run 0 n b) nx ny) i j (stock-alike i j p I);
       }
 
-  pub stock-is : (v : List ℕ) → v ≡ squaresPut (g .setup .grid .nx) wide 0 0 b u → Stocked (g .setup) band b u v
+  pub stock-is : (v : List ℕ) → v ≡ squaresPut (g .setup .grid .nx) wide 0 0 b u → StockedRows (g .setup) band b u v
   stock-is v e =
       let z : 0 ≡ 0 * cellsOf (g .setup) = omega arith in
-      subst (Stocked (g .setup) band b u) (sym (e ∙ ap (λ (k : ℕ). squaresPut (g .setup .grid .nx) wide k k b u) z)) stock-put
+      subst (StockedRows (g .setup) band b u) (sym (e ∙ ap (λ (k : ℕ). squaresPut (g .setup .grid .nx) wide k k b u) z)) stock-put
 
 -- ---- both
 
-module _ (s : Setup) (all : Bool) (band : Band) (b u : List ℕ) (l : 5 * cellsOf s ≤ length u) where
+module _ (s : Setup) (all : Bool) (w : Window) (b u : List ℕ) (l : 5 * cellsOf s ≤ length u) where
   words-fit : Fits (0 * cellsOf s) (5 * cellsOf s) u
   words-fit = record { start = omega arith; end = l }
 
   -- no row is gone through
-  pub measured-none : band .hi ≤ band .lo → Measured s all band b u u
+  pub measured-none : w .hi ≤ w .lo → Measured s all w b u u
   measured-none e =
-      let none : (j : ℕ) → Inside band j → ⊥ = λ j I. let p = I .low in let q = I .high in omega arith in
-      record { words = only-same (0 * cellsOf s) (5 * cellsOf s) u words-fit; value = λ i j p I. absurd (none j I); wanted = λ i j p I. absurd (none j I) }
+      let none : (i j : ℕ) → In w i j → ⊥ = λ i j I. let p = I .low in let q = I .high in omega arith in
+      record { words = only-same (0 * cellsOf s) (5 * cellsOf s) u words-fit; value = λ i j I. absurd (none i j I); wanted = λ i j I. absurd (none i j I) }
 
-  module _ (u₁ : List ℕ) (X : Stocked s band b u u₁) where
-    pub measured-all : all ≡ true → Measured s all band b u u₁
+  module _ (u₁ : List ℕ) (X : Stocked s w b u u₁) where
+    pub measured-all : all ≡ true → Measured s all w b u u₁
     unfolding wantedAt
-    measured-all e = record { words = X .words; value = X .value; wanted = λ i j p I. rw e refl }
+    measured-all e = record { words = X .words; value = X .value; wanted = λ i j I. rw e refl }
 
-    pub measured-both : all ≡ false → (u₂ : List ℕ) → Neared (s .grid) band b u₁ u₂ → Measured s all band b u u₂
+    pub measured-both : all ≡ false → (u₂ : List ℕ) → Neared s w b u₁ u₂ → Measured s all w b u u₂
     unfolding wantedAt
     measured-both e u₂ Y =
         let n = cellsOf s in
@@ -251,9 +254,21 @@ module _ (s : Setup) (all : Bool) (band : Band) (b u : List ℕ) (l : 5 * cellsO
         let same : run 0 n u₂ ≡ run 0 n u₁ = only-before (1 * n) (5 * n) u₁ f u₂ (Y .words) (0 * n) (0 * n + n) (omega arith) (omega arith) in
         record {
           words = only-more (0 * n) (5 * n) u words-fit u₁ (X .words) u₂ (only-wider (1 * n) (5 * n) u₁ u₂ f (Y .words) (0 * n) (5 * n) (omega arith) (omega arith) k);
-          value = λ i j p I. ap (λ (q : List ℕ). valueAt s (run 0 n b) q i j) same ∙ X .value i j p I;
-          wanted = λ i j p I. rw (Y .near i j p I) refl;
+          value = λ i j I. ap (λ (q : List ℕ). valueAt s (run 0 n b) q i j) same ∙ X .value i j I;
+          wanted = λ i j I. rw (Y .near i j I) refl;
         }
+
+-- ---- a window, by the squares of its rows
+
+module _ (s : Setup) (w : Window) (b u v : List ℕ) (C : RowsOf (s .grid .nx) (columnsOf w)) where
+  inside-rows : (i j : ℕ) → In w i j → (i < s .grid .nx) × Inside (rowsOf w) j
+  inside-rows i j I = let r = I .right in let h = C .high in (omega arith, record { low = I .low; high = I .high })
+
+  pub stocked-rows : StockedRows s (rowsOf w) b u v → Stocked s w b u v
+  stocked-rows X = record { words = X .words; value = λ i j I. let z = inside-rows i j I in X .value i j (z .0) (z .1) }
+
+  pub neared-rows : NearedRows (s .grid) (rowsOf w) b u v → Neared s w b u v
+  neared-rows X = record { words = X .words; near = λ i j I. let z = inside-rows i j I in ap (λ (q : ℕ). le (rootedOf q) (reachOf s)) (X .near i j (z .0) (z .1)) }
 
 -- ---- the parts that are lent, and come back
 

@@ -1,4 +1,4 @@
--- A sweep over a band of rows is the sweep over all of them, if no cell outside the band is wanted. Assumes nothing.
+-- A sweep over a window is the sweep over all cells, if no cell outside the window is wanted. Assumes nothing.
 use mathlib.Core.Path.{_≡_, refl, sym, ap, _∙_}
 use mathlib.Core.Bool.{Bool, false}
 use mathlib.Core.List.{List}
@@ -11,9 +11,10 @@ use Rattle.loops.specs.Cells.{number}
 use Rattle.loops.proofs.Cases.{by-cases}
 use Rattle.loops.proofs.LoopLaws.{loop-end, loop-keeps, loop-split, loop-both}
 use Rattle.setup.specs.declared.Setup.{Setup}
-use Rattle.field.specs.Bands.{Inside, bandRows}
+use Rattle.dilation.specs.Window.{In}
+use Rattle.dilation.specs.declared.window.Window.{Window}
+use Rattle.field.specs.Bands.{Inside, columnsOf, windowRow, windowRows}
 use Rattle.field.specs.Field.{valueAt, wantedAt, Sensed, fieldCell, fieldRow, fieldRows}
-use Rattle.field.specs.declared.band.Band.{Band}
 
 module _ {S : Type 0} (f : ℕ → S → S) where
   -- a loop whose turns do nothing
@@ -57,34 +58,45 @@ module _ (s : Setup) (all : Bool) (map allowed stock near stock′ near′ : Lis
   unfolding fieldRow fieldCell
   row-idle j t h = loop-idle (fieldCell s all map allowed stock near j) 1 (s .grid .nx - 1) t (λ i u a b. rw (h i (omega arith)) refl)
 
-  -- a row by other squares that say the same
-  row-same : (j : ℕ) (t : Sensed) → ((i : ℕ) → i < s .grid .nx → valueAt s map stock i j ≡ valueAt s map stock′ i j)
-      → ((i : ℕ) → i < s .grid .nx → wantedAt s all allowed near (number (s .grid .nx) i j) ≡ wantedAt s all allowed near′ (number (s .grid .nx) i j))
-      → fieldRow s all map allowed stock near j t ≡ fieldRow s all map allowed stock′ near′ j t
-  unfolding fieldRow fieldCell
-  row-same j t v w =
-      loop-same (fieldCell s all map allowed stock near j) (fieldCell s all map allowed stock′ near′ j) 1 (s .grid .nx - 1) t (λ i u a b. rw (v i (omega arith), w i (omega arith)) refl)
+  -- a row's cells in a window, by other squares that say the same of them; no other cell is wanted
+  row-same : (w : Window) (j : ℕ) (t : Sensed) → ((i : ℕ) → Inside (columnsOf w) i → valueAt s map stock i j ≡ valueAt s map stock′ i j)
+      → ((i : ℕ) → Inside (columnsOf w) i → wantedAt s all allowed near (number (s .grid .nx) i j) ≡ wantedAt s all allowed near′ (number (s .grid .nx) i j))
+      → ((i : ℕ) → i < s .grid .nx → (Inside (columnsOf w) i → ⊥) → wantedAt s all allowed near′ (number (s .grid .nx) i j) ≡ false)
+      → windowRow s all map allowed stock near w j t ≡ fieldRow s all map allowed stock′ near′ j t
+  unfolding windowRow fieldRow fieldCell
+  row-same w j t v d o =
+      loop-part (fieldCell s all map allowed stock′ near′ j) (fieldCell s all map allowed stock near j) 1 (s .grid .nx - 1) (max 1 (w .left)) (min (w .right) (s .grid .nx - 1)) t (omega arith) (omega arith)
+      (λ i u a b n. rw (o i (omega arith) (λ I. let p = I .low in let q = I .high in n (omega arith) (omega arith))) refl)
+      (λ i u a b. let I : Inside (columnsOf w) i = record { low = omega arith; high = omega arith } in rw (v i I, d i I) refl)
 
--- the rows of a band, by squares that say of its cells what the others say
-pub band-sweep : (s : Setup) (all : Bool) (map allowed stock near stock′ near′ : List ℕ) (band : Band) (t : Sensed)
-    → ((i j : ℕ) → i < s .grid .nx → Inside band j → valueAt s map stock i j ≡ valueAt s map stock′ i j)
-    → ((i j : ℕ) → i < s .grid .nx → Inside band j → wantedAt s all allowed near (number (s .grid .nx) i j) ≡ wantedAt s all allowed near′ (number (s .grid .nx) i j))
-    → ((i j : ℕ) → i < s .grid .nx → j < s .grid .ny → (Inside band j → ⊥) → wantedAt s all allowed near′ (number (s .grid .nx) i j) ≡ false)
-    → bandRows s all map allowed stock near band t ≡ fieldRows s all map allowed stock′ near′ t
-unfolding bandRows fieldRows
-band-sweep s all map allowed stock near stock′ near′ band t v w o =
-    loop-part (fieldRow s all map allowed stock′ near′) (fieldRow s all map allowed stock near) 1 (s .grid .ny - 1) (max 1 (band .lo)) (min (band .hi) (s .grid .ny - 1)) t (omega arith) (omega arith)
+-- the cells of a window, by squares that say of them what the others say
+pub window-sweep : (s : Setup) (all : Bool) (map allowed stock near stock′ near′ : List ℕ) (w : Window) (t : Sensed)
+    → ((i j : ℕ) → In w i j → valueAt s map stock i j ≡ valueAt s map stock′ i j)
+    → ((i j : ℕ) → In w i j → wantedAt s all allowed near (number (s .grid .nx) i j) ≡ wantedAt s all allowed near′ (number (s .grid .nx) i j))
+    → ((i j : ℕ) → i < s .grid .nx → j < s .grid .ny → (In w i j → ⊥) → wantedAt s all allowed near′ (number (s .grid .nx) i j) ≡ false)
+    → windowRows s all map allowed stock near w t ≡ fieldRows s all map allowed stock′ near′ t
+unfolding windowRows fieldRows
+window-sweep s all map allowed stock near stock′ near′ w t v d o =
+    loop-part (fieldRow s all map allowed stock′ near′) (windowRow s all map allowed stock near w) 1 (s .grid .ny - 1) (max 1 (w .lo)) (min (w .hi) (s .grid .ny - 1)) t (omega arith) (omega arith)
     (λ j u a b n. row-idle s all map allowed stock′ near′ stock near j u
     (λ i h. o i j h (omega arith) (λ I. let p = I .low in let q = I .high in n (omega arith) (omega arith))))
     (λ j u a b.
-    let I : Inside band j = record { low = omega arith; high = omega arith } in
-    row-same s all map allowed stock near stock′ near′ j u (λ i h. v i j h I) (λ i h. w i j h I))
+    let in-row : (i : ℕ) → Inside (columnsOf w) i → In w i j = λ i I. record { low = omega arith; high = omega arith; left = I .low; right = I .high } in
+    row-same s all map allowed stock near stock′ near′ w j u (λ i I. v i j (in-row i I)) (λ i I. d i j (in-row i I))
+    (λ i h n. o i j h (omega arith) (λ I. n (record { low = I .left; high = I .right }))))
 
--- the loop that goes through them
-pub band-is : (s : Setup) (all : Bool) (map allowed stock near : List ℕ) (band : Band) (first end : ℕ) (t u : Sensed) → first ≡ max 1 (band .lo) → end ≡ min (band .hi) (s .grid .ny - 1)
-    → u ≡ loop (fieldRow s all map allowed stock near) first end t → u ≡ bandRows s all map allowed stock near band t
-unfolding bandRows
-band-is s all map allowed stock near band first end t u F E e =
-    e
-    ∙ ap (λ (k : ℕ). loop (fieldRow s all map allowed stock near) k end t) F
-    ∙ ap (λ (k : ℕ). loop (fieldRow s all map allowed stock near) (max 1 (band .lo)) k t) E
+-- the loops that go through them
+module _ (s : Setup) (all : Bool) (map allowed stock near : List ℕ) (w : Window) (first end : ℕ) (t u : Sensed) where
+  pub row-is : (j : ℕ) → first ≡ max 1 (w .left) → end ≡ min (w .right) (s .grid .nx - 1) → u ≡ loop (fieldCell s all map allowed stock near j) first end t → u ≡ windowRow s all map allowed stock near w j t
+  unfolding windowRow
+  row-is j F E e =
+      e
+      ∙ ap (λ (k : ℕ). loop (fieldCell s all map allowed stock near j) k end t) F
+      ∙ ap (λ (k : ℕ). loop (fieldCell s all map allowed stock near j) (max 1 (w .left)) k t) E
+
+  pub rows-are : first ≡ max 1 (w .lo) → end ≡ min (w .hi) (s .grid .ny - 1) → u ≡ loop (windowRow s all map allowed stock near w) first end t → u ≡ windowRows s all map allowed stock near w t
+  unfolding windowRows
+  rows-are F E e =
+      e
+      ∙ ap (λ (k : ℕ). loop (windowRow s all map allowed stock near w) k end t) F
+      ∙ ap (λ (k : ℕ). loop (windowRow s all map allowed stock near w) (max 1 (w .lo)) k t) E

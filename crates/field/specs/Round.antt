@@ -13,9 +13,9 @@ use Rattle.loops.specs.Frame.{Only}
 use Rattle.distance.specs.Nearest.{squaresOf}
 use Rattle.raster.specs.Grid.{Sides}
 use Rattle.setup.specs.Layout.{stockFrom, beforeFrom, rimFrom, tablesEnd, run, dirtyPut, fieldPut, Lent, mapIn, allowedIn, dirtyIn}
-use Rattle.field.specs.Bands.{bandRows}
+use Rattle.dilation.specs.declared.window.Window.{Window}
+use Rattle.field.specs.Bands.{windowRows}
 use Rattle.field.specs.Field.{Sensed, sensed, fieldOf}
-use Rattle.field.specs.declared.band.Band.{Band}
 
 -- the slices are lent, and the tool's tables stand where they belong
 pub record Ready (s : Setup) (b u : List ℕ) (w f : List Float) : Type 0 where
@@ -23,16 +23,16 @@ pub record Ready (s : Setup) (b u : List ℕ) (w f : List Float) : Type 0 where
   pub lent : Lent (cellsOf s) (length b) (length u) (length f) (length w)
   pub tables : Tables s (within (rimFrom (cellsOf s)) (tablesEnd (cellsOf s)) w)
 
--- the rows of a band, over what stands in the regions
-unfoldable pub rowsIn : Setup → Bool → Band → List ℕ → List ℕ → List Float → Sensed
-rowsIn s all band b u f =
+-- the cells of a window, over what stands in the regions
+unfoldable pub rowsIn : Setup → Bool → Window → List ℕ → List ℕ → List Float → Sensed
+rowsIn s all x b u f =
     let n = cellsOf s in
-    bandRows s all (mapIn n b) (allowedIn n b) (run 0 n u) (run 1 n u) band (sensed (run 0 n f) 0)
+    windowRows s all (mapIn n b) (allowedIn n b) (run 0 n u) (run 1 n u) x (sensed (run 0 n f) 0)
 
--- the rows are worked out into the f32's first run
-pub record Rowed (s : Setup) (all : Bool) (band : Band) (b u : List ℕ) (f : List Float) (r : ℕ) (f′ : List Float) : Type 0 where
-  pub sampled : r ≡ rowsIn s all band b u f .sampled
-  pub singles : f′ ≡ fieldPut (cellsOf s) (rowsIn s all band b u f .field) f
+-- they are worked out into the f32's first run
+pub record Rowed (s : Setup) (all : Bool) (x : Window) (b u : List ℕ) (f : List Float) (r : ℕ) (f′ : List Float) : Type 0 where
+  pub sampled : r ≡ rowsIn s all x b u f .sampled
+  pub singles : f′ ≡ fieldPut (cellsOf s) (rowsIn s all x b u f .field) f
 
 -- the field of a round, by the squares of the distance to the map's stock
 unfoldable pub roundOf : Setup → Bool → List ℕ → List Float → Sensed

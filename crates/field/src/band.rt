@@ -1,13 +1,16 @@
-// Bands of rows: a round of the field goes by the rows near to a cell that was cut.
+// Bands of rows and of columns: a round of the field goes by those near to a cell that was cut.
 ghost use mathlib.Core.Path.{_≡_};
-ghost use Prim.Native.Nat.{_*_, _≤_, min, max};
+ghost use mathlib.Core.Bool.{true};
+ghost use Prim.Native.Nat.{_*_, _≤_, _<_, min, max};
 ghost use lib.ListN.{length};
 ghost use Rattle.raster.specs.Grid.{Sides};
-ghost use Rattle.field.specs.Bands.{widened, Margin, Unmarked, MarkedRows};
+ghost use Rattle.field.specs.Bands.{widened, Margin, Unmarked, MarkedRows, MarkedColumns, RowsOf, Around};
+use dilation::window::Window;
 use distance::limits::Limit;
 use raster::grid::Grid;
+use rims::tiles::gather_rows;
 
-// The rows from lo on, before hi.
+// The rows, or the columns, from lo on, before hi.
 pub struct Band {
     pub lo: usize,
     pub hi: usize,
@@ -32,7 +35,7 @@ pub fn greater(a: usize, b: usize) -> usize
 }
 
 // How many rows apart cells of a map of ny rows can be that are within a limit: all of them, where none
-// is told.
+// is told. So it is of columns.
 pub fn margin(l: Limit, ny: usize) -> usize
     requires { ⌜ ny ≤ 4096 ⌝ }
     ensures { λ m. ⌜ Margin l ny m ⌝ }
@@ -88,16 +91,15 @@ fn end_of(marks: &[u8]) -> usize
     0
 }
 
-// From the first row that has a mark to the last.
-pub fn marked_rows(g: Grid, marks: &[u8]) -> Band
-    requires { ⌜ Sides g ⌝ }
-    requires { ⌜ length (now marks) ≡ g .ny * g .nx ⌝ }
-    ensures { λ r. ⌜ MarkedRows (now (marks .entry)) (g .nx) (g .ny) r ⌝ }
+// From the first row that has a mark to the last, of ny rows of nx cells.
+fn marked_rows(nx: usize, ny: usize, marks: &[u8]) -> Band
+    requires { ⌜ 0 < nx ⌝ }
+    requires { ⌜ length (now marks) ≡ ny * nx ⌝ }
+    ensures { λ r. ⌜ MarkedRows (now (marks .entry)) nx ny r ⌝ }
 {
     let first = first_of(marks);
     let end = end_of(marks);
     if first < end {
-        let nx = g.nx;
         let last = end - 1;
         return Band {
             lo: first / nx,
@@ -105,4 +107,46 @@ pub fn marked_rows(g: Grid, marks: &[u8]) -> Band
         };
     }
     Band { lo: 0, hi: 0 }
+}
+
+// From the first column that has a mark in these rows to the last.
+fn marked_columns(g: Grid, rows: Band, marks: &[u8]) -> Band
+    requires { ⌜ Sides g ⌝ }
+    requires { ⌜ length (now marks) ≡ g .ny * g .nx ⌝ }
+    requires { ⌜ RowsOf (g .ny) rows ⌝ }
+    ensures { λ r. ⌜ MarkedColumns (now (marks .entry)) (g .nx) rows r ⌝ }
+{
+    let mut cols = [0u8; 4096];
+    let nx = g.nx;
+    gather_rows(g, marks, rows.lo, rows.hi, &mut cols);
+    marked_rows(1, nx, &cols[0..nx])
+}
+
+// The window outside of which no cell is within the limit of a mark.
+pub fn around(g: Grid, l: Limit, marks: &[u8]) -> Window
+    requires { ⌜ Sides g ⌝ }
+    requires { ⌜ length (now marks) ≡ g .ny * g .nx ⌝ }
+    requires { ⌜ l .told ≡ true ⌝ }
+    ensures { λ w. ⌜ Around (now (marks .entry)) (g .nx) (g .ny) (l .below) w ⌝ }
+{
+    let rows = marked_rows(g.nx, g.ny, marks);
+    let cols = marked_columns(g, rows, marks);
+    let m = margin(l, g.ny);
+    let n = margin(l, g.nx);
+    if (rows.lo < rows.hi) & (cols.lo < cols.hi) {
+        let r = widen(rows, m, g.ny);
+        let c = widen(cols, n, g.nx);
+        return Window {
+            lo: r.lo,
+            hi: r.hi,
+            left: c.lo,
+            right: c.hi,
+        };
+    }
+    Window {
+        lo: 0,
+        hi: 0,
+        left: 0,
+        right: 0,
+    }
 }

@@ -10,12 +10,12 @@ ghost use Rattle.setup.specs.Layout.{dirtyPut, fieldPut};
 ghost use Rattle.field.specs.Field.{ringAt};
 ghost use Rattle.field.specs.Gauge.{Gauged};
 ghost use Rattle.field.specs.Round.{Ready, Rowed, Done};
-use super::band::Band;
 use super::gauge::Gauge;
 use super::gauge::gauge_of;
 use super::rows::field_rows;
 use super::squares::measure;
-use super::squares::wanted_rows;
+use super::squares::wanted_window;
+use dilation::window::Window;
 use raster::grid::Grid;
 use setup::Setup;
 use setup::fill::fill_bytes;
@@ -46,11 +46,12 @@ fn clear_dirty(g: Grid, b: &mut [u8])
     fill_bytes(&mut b[a..e], 0);
 }
 
-// The rows of a band, over the workspace's regions.
-fn rows(g: Gauge, band: Band, b: &[u8], u: &[u32], w: &[f64], f: &mut [f32]) -> usize
+// The cells of a window, over the workspace's regions.
+fn rows(g: Gauge, x: Window, b: &[u8], u: &[u32], w: &[f64], f: &mut [f32]) -> usize
     requires { ⌜ Gauged g ⌝ }
     requires { ⌜ Ready (g .setup) (now b) (now u) (now w) (now f) ⌝ }
-    ensures { λ r. ⌜ Rowed (g .setup) (g .all) band (now (b .entry)) (now (u .entry)) (now (f .entry)) r (now (f .exit)) ⌝ }
+    requires { ⌜ x .left ≤ g .setup .grid .nx ⌝ }
+    ensures { λ r. ⌜ Rowed (g .setup) (g .all) x (now (b .entry)) (now (u .entry)) (now (f .entry)) r (now (f .exit)) ⌝ }
 {
     let n = layout::cells(g.setup.grid);
     let a = layout::allowed(n);
@@ -61,7 +62,7 @@ fn rows(g: Gauge, band: Band, b: &[u8], u: &[u32], w: &[f64], f: &mut [f32]) -> 
     let t = r + (8 * n + 8192);
     field_rows(
         g,
-        band,
+        x,
         &b[0..n],
         &b[a..c],
         &u[0..n],
@@ -79,11 +80,11 @@ pub fn field(s: Setup, all: bool, b: &mut [u8], u: &mut [u32], w: &[f64], f: &mu
 {
     let grid = s.grid;
     let g = gauge_of(s, all);
-    let band = wanted_rows(g, b);
-    measure(g, band, b, u);
+    let x = wanted_window(g, b);
+    measure(g, x, b, u);
     begin(grid, all, f);
     clear_dirty(grid, b);
-    rows(g, band, b, u, w, f)
+    rows(g, x, b, u, w, f)
 }
 
 // 0 where the tool may go, else 1: the ring is where this crosses one half.

@@ -3,15 +3,15 @@ ghost use mathlib.Core.Path.{_≡_};
 ghost use Prim.Native.Nat.{_+_, _*_, _≤_, _<_};
 ghost use lib.ListN.{length};
 ghost use Rattle.loops.specs.Cells.{number};
-ghost use Rattle.field.specs.Bands.{bandRows};
-ghost use Rattle.field.specs.Field.{sensed, fieldCell, fieldRow};
+ghost use Rattle.field.specs.Bands.{windowRow, windowRows};
+ghost use Rattle.field.specs.Field.{sensed, fieldCell};
 ghost use Rattle.field.specs.Gauge.{Gauged, Sensing};
-use super::band::Band;
 use super::band::greater;
 use super::band::lesser;
 use super::gauge::Gauge;
 use super::gauge::value_at;
 use super::gauge::wanted;
+use dilation::window::Window;
 
 // Works out cell (i, j) if it is wanted; how many cells were sampled, with it.
 fn field_cell(
@@ -43,9 +43,10 @@ fn field_cell(
     sampled
 }
 
-// Works out row j.
+// Works out the window's cells of row j.
 fn field_row(
     g: Gauge,
+    w: Window,
     map: &[u8],
     allowed: &[u8],
     stock: &[u32],
@@ -57,21 +58,22 @@ fn field_row(
 ) -> usize
     requires { ⌜ Gauged g ⌝ }
     requires { ⌜ Sensing (g .setup) (now map) (now allowed) (now stock) (now near) (now rim) (length (now f)) ⌝ }
-    requires { ⌜ (j < g .setup .grid .ny) × (sampled ≤ j * g .setup .grid .nx) ⌝ }
-    ensures { λ n. ⌜ sensed (now (f .exit)) n ≡ fieldRow (g .setup) (g .all) (now (map .entry)) (now (allowed .entry)) (now (stock .entry)) (now (near .entry)) j (sensed (now (f .entry)) sampled) ⌝ }
+    requires { ⌜ (j < g .setup .grid .ny) × (sampled ≤ j * g .setup .grid .nx) × (w .left ≤ g .setup .grid .nx) ⌝ }
+    ensures { λ n. ⌜ sensed (now (f .exit)) n ≡ windowRow (g .setup) (g .all) (now (map .entry)) (now (allowed .entry)) (now (stock .entry)) (now (near .entry)) w j (sensed (now (f .entry)) sampled) ⌝ }
 {
-    let nx = g.setup.grid.nx;
+    let first = greater(1, w.left);
+    let end = lesser(w.right, g.setup.grid.nx - 1);
     let mut n = sampled;
-    for i in 1..nx - 1 {
+    for i in first..end {
         n = field_cell(g, map, allowed, stock, near, rim, f, j, i, n);
     }
     n
 }
 
-// Works out the rows of a band; how many cells were sampled.
+// Works out the cells of a window; how many of them were sampled.
 pub fn field_rows(
     g: Gauge,
-    band: Band,
+    w: Window,
     map: &[u8],
     allowed: &[u8],
     stock: &[u32],
@@ -81,13 +83,14 @@ pub fn field_rows(
 ) -> usize
     requires { ⌜ Gauged g ⌝ }
     requires { ⌜ Sensing (g .setup) (now map) (now allowed) (now stock) (now near) (now rim) (length (now f)) ⌝ }
-    ensures { λ n. ⌜ sensed (now (f .exit)) n ≡ bandRows (g .setup) (g .all) (now (map .entry)) (now (allowed .entry)) (now (stock .entry)) (now (near .entry)) band (sensed (now (f .entry)) 0) ⌝ }
+    requires { ⌜ w .left ≤ g .setup .grid .nx ⌝ }
+    ensures { λ n. ⌜ sensed (now (f .exit)) n ≡ windowRows (g .setup) (g .all) (now (map .entry)) (now (allowed .entry)) (now (stock .entry)) (now (near .entry)) w (sensed (now (f .entry)) 0) ⌝ }
 {
-    let first = greater(1, band.lo);
-    let end = lesser(band.hi, g.setup.grid.ny - 1);
+    let first = greater(1, w.lo);
+    let end = lesser(w.hi, g.setup.grid.ny - 1);
     let mut n = 0;
     for j in first..end {
-        n = field_row(g, map, allowed, stock, near, rim, f, j, n);
+        n = field_row(g, w, map, allowed, stock, near, rim, f, j, n);
     }
     n
 }

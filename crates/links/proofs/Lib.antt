@@ -5,6 +5,7 @@ pub mod SiftLaws
 pub mod HoldLaws
 pub mod StraightLaws
 pub mod LatticeLaws
+pub mod TellLaws
 pub mod SearchLaws
 pub mod VisitLaws
 pub mod SeekLaws

@@ -4,10 +4,10 @@ use mathlib.Core.Bool.{Bool, true, false, cond}
 use mathlib.Core.List.{List, [], _∷_}
 use Prim.Native.Nat.{ℕ, _+_, _-_, _*_, _≤_, _<_}
 use native.Mathlib.Omega.{arith}
-use native.Mathlib.Nat.{mul-le-mul-right, mul-pos}
+use native.Mathlib.Nat.{mul-pos}
 use lib.Dec.{eqb, ltb}
 use lib.ListN.{length, getD, take, drop}
-use lib.Seq.{take-take}
+use lib.Seq.{take-take, getD-take}
 use lib.Ieee.{Float, nan}
 use borrow.Rule.Slice.PartMut.{putMid}
 use Rattle.loops.specs.Regions.{Fits, within}
@@ -19,14 +19,14 @@ use Rattle.loops.specs.Frame.{Only}
 use Rattle.loops.proofs.FrameLaws.{back-there, back-only, only-same, only-more, only-before, only-after, only-wider}
 use Rattle.geom.specs.Points.{putPoint, points}
 use Rattle.geom.specs.declared.vec2.Vec2.{Vec2}
-use Rattle.distance.specs.Least as least
 use Rattle.distance.specs.Nearest.{squaresOf}
 use Rattle.distance.specs.Rooted.{rootedOf, distanceTransform}
-use Rattle.distance.proofs.NearestLaws.{listed-at, squares-are}
+use Rattle.distance.proofs.NearestLaws.{listed-at}
 use Rattle.raster.specs.Grid.{Over, cellOf}
 use Rattle.raster.specs.declared.grid.Grid.{Grid}
 use Rattle.raster.specs.declared.grid.Found.{Found}
 use Rattle.raster.specs.declared.grid.Found.the-variants.{Nothing, At}
+use Rattle.rims.specs.Tiles.{Tiled}
 use Rattle.setup.specs.Place.{Walls}
 use Rattle.setup.specs.Tables.{Tables}
 use Rattle.setup.specs.declared.Setup.{Setup}
@@ -36,58 +36,53 @@ use Rattle.links.specs.declared.search.Sought.{Sought}
 use Rattle.links.specs.declared.path.Shortened.{Shortened}
 use Rattle.links.specs.declared.path.Shortened.the-variants.{Blocked, Points}
 use Rattle.links.specs.declared.link.Route.the-variants.{Along, Lost}
-use Rattle.links.specs.Lattice.{latticeOf, nodes, Laid}
+use Rattle.links.specs.Lattice.{latticeOf, nodes, cellOfNode, Laid, Telling}
 use Rattle.links.specs.Search.{Search, Outcome, seekNext, seekStep, ended, started, seekOf, cells, squaresIn, Befores, outcomeIn}
 use Rattle.links.specs.Straight.{linkClear}
 use Rattle.links.specs.Path.{Way, lost, way, nodesOf, shortenOf, wallIn, pathIn, clearIn, Fitted, shortIn}
 use Rattle.links.specs.Link.{Linked, linked, aroundOf, betweenOf, linkPath, linkedIn, beforeIn}
-use Rattle.links.proofs.LatticeLaws.{nodes-few, nodes-most}
-use Rattle.links.proofs.SeekLaws.{sound-seek}
+use Rattle.links.proofs.LatticeLaws.{nodes-few, nodes-most, cell-below}
+use Rattle.links.proofs.SeekLaws.{sound-seek, seek-same}
 use Rattle.links.proofs.LayLaws.{points-front}
 use Rattle.links.proofs.ShortenLaws.{part-at, fitted-only, path-long}
 
--- ---- the squares, then the search
+-- ---- what tells the nodes, then the search
 
-module _ (l : Lattice) (L : Laid l) (m : List ℕ) (M : cells l ≤ length m) (u : List ℕ) (A : 15 * cells l ≤ length u) (k : ℕ) (K₁ : k ≡ cells l) (b : ℕ) (B : b ≡ 5 * k) where
-  sides : least.MapSides (l .grid .nx) (l .grid .ny)
-  sides = let s = L .sides in record { column = s .wide; wide = s .columns; row = s .high; high = s .rows }
-
+module _ (l : Lattice) (L : Laid l) (m : List ℕ) (u : List ℕ) (A : 15 * cells l ≤ length u) (k : ℕ) (K₁ : k ≡ cells l) (b : ℕ) (B : b ≡ 5 * k) where
   part : Fits 0 b u
   part = record { start = omega arith; end = omega arith }
 
-  room : 4 * cells l ≤ length (take (b - 0) (drop 0 u))
-  room = omega (arith, region-long 0 b u part)
+  pub tell-room : 5 * cells l ≤ length (take (b - 0) (drop 0 u))
+  tell-room = omega (arith, region-long 0 b u part)
 
-  narrow : cells l + 3 * l .grid .nx ≤ 4 * cells l
-  narrow = let z : 1 * l .grid .nx ≤ cells l = mul-le-mul-right (l .grid .nx) (L .sides .high) in omega arith
-
-  pub transform-asks : least.MapSides (l .grid .nx) (l .grid .ny) × ((cells l ≤ length m) × (cells l + 3 * l .grid .nx ≤ length (take (b - 0) (drop 0 u))))
-  transform-asks = (sides, (M, omega (arith, room, narrow)))
-
-  module _ (t : List ℕ) (T : least.Transformed 1 m (l .grid .nx) (l .grid .ny) (take (b - 0) (drop 0 u)) t) (K : length t ≡ length (take (b - 0) (drop 0 u))) where
+  module _ (t : List ℕ) (T : Telling l (squaresOf 1 m (l .grid .nx) (l .grid .ny)) t) (K : length t ≡ length (take (b - 0) (drop 0 u))) where
     abbrev u₁ : List ℕ
     u₁ = putMid 0 (b - 0) u t
 
     first : Only 0 (15 * cells l) u u₁
     first = only-wider 0 b u u₁ part (back-only 0 b u part t K) 0 (15 * cells l) (omega arith) (omega arith) A
 
-    pub transformed-squares : squaresIn l u₁ ≡ squaresOf 1 m (l .grid .nx) (l .grid .ny)
+    pub told-long : 15 * cells l ≤ length u₁
+    told-long = omega (arith, first .long)
+
+    words-told : squaresIn l u₁ ≡ take (cells l) t
     unfolding within
-    transformed-squares =
+    words-told =
         ap (λ (k : ℕ). take k u₁) (let z : cells l - 0 ≡ cells l = omega arith in z)
         ∙ sym (take-take (cells l) (b - 0) u₁ (omega arith))
         ∙ ap (take (cells l)) (back-there 0 b u part t K)
-        ∙ squares-are 1 m (l .grid .nx) (l .grid .ny) _ t sides (omega (arith, K, room)) T
 
-    pub transformed-long : 15 * cells l ≤ length u₁
-    transformed-long = omega (arith, first .long)
+    telling : Telling l (squaresOf 1 m (l .grid .nx) (l .grid .ny)) (squaresIn l u₁)
+    telling =
+        subst (Telling l (squaresOf 1 m (l .grid .nx) (l .grid .ny))) (sym words-told)
+        (record { node = λ v h. rw (getD-take (cells l) t (cellOfNode l v .0) 0 (cell-below l L v h)) (T .node v h) })
 
     pub search-is : (allowed : List ℕ) (o : Sought) (u₂ : List ℕ) (y z : ℕ) → outcomeIn l o u₂ ≡ seekOf l allowed (squaresIn l u₁) → Only (5 * cells l) (15 * cells l) u₁ u₂ → y ≡ z
         → (outcomeIn l o u₂ ≡ seekOf l allowed (squaresOf 1 m (l .grid .nx) (l .grid .ny))) × (Only 0 (15 * cells l) u u₂ × (y ≡ z))
     search-is allowed o u₂ y z X Y Z =
-        let h : Fits (5 * cells l) (15 * cells l) u₁ = record { start = omega arith; end = transformed-long } in
-        let all : Only 0 (15 * cells l) u₁ u₂ = only-wider (5 * cells l) (15 * cells l) u₁ u₂ h Y 0 (15 * cells l) (omega arith) (omega arith) transformed-long in
-        (X ∙ ap (seekOf l allowed) transformed-squares, (only-more 0 (15 * cells l) u (record { start = omega arith; end = A }) u₁ first u₂ all, Z))
+        let h : Fits (5 * cells l) (15 * cells l) u₁ = record { start = omega arith; end = told-long } in
+        let all : Only 0 (15 * cells l) u₁ u₂ = only-wider (5 * cells l) (15 * cells l) u₁ u₂ h Y 0 (15 * cells l) (omega arith) (omega arith) told-long in
+        (X ∙ seek-same l allowed _ _ telling, (only-more 0 (15 * cells l) u (record { start = omega arith; end = A }) u₁ first u₂ all, Z))
 
 -- a node's distance by its square is that of the Rust's `distance_transform`
 pub square-distance : (m : List ℕ) (nx ny k : ℕ) → k < ny * nx → rootedOf (getD (squaresOf 1 m nx ny) k 0) ≡ getD (distanceTransform 1 m nx ny) k nan
@@ -142,8 +137,8 @@ module _ (s : Setup) (vs : List Float) (lens m : List ℕ) (w : List Float) (F :
       whole : Fits (20 * size) (23 * size) w
       whole = record { start = omega arith; end = omega (arith, F .long) }
 
-      pub shorten-asks : Fitted s vs lens m w₁ × ((k ≤ n) × (2 * n ≤ 3 * size))
-      shorten-asks = (fitted-only s vs lens m w F w₁ laid-only, (omega arith, omega (arith, nodes-in)))
+      pub shorten-asks : (t : List ℕ) → Tiled (s .grid) m t → Fitted s vs lens m w₁ × (Tiled (s .grid) m t × ((k ≤ n) × (2 * n ≤ 3 * size)))
+      shorten-asks t T = (fitted-only s vs lens m w F w₁ laid-only, (T, (omega arith, omega (arith, nodes-in))))
 
       pub trace-is : (to from : Vec2) → points k (nodes l - k) r ≡ nodesOf l (take (b + n - b) (drop b u)) to → (q : Shortened) (w₂ : List Float)
           → shortIn s q w₂ ≡ shortenOf (clearIn s vs lens m w₁) (points k (n - k) (pathIn s w₁)) from → Only (20 * size) (23 * size) w₁ w₂
@@ -238,9 +233,9 @@ module _ (s : Setup) (vs : List Float) (lens m allowed : List ℕ) (w : List Flo
     pub work-few : o .expanded ≤ 1048577
     work-few = omega (arith, ap (λ (q : Outcome). q .sought .expanded) X, seek-few l allowed (squaresOf 1 m (l .grid .nx) (l .grid .ny)), nodes-most l L)
 
-    pub trace-asks : Fitted s vs lens m wₛ × (Laid l × ((l .grid ≡ s .grid) × ((15 * cells l ≤ length u₁) × Befores (nodes l) (beforeIn l u₁))))
-    trace-asks =
-        (fitted-kept s vs lens m w F a e (omega arith) (omega arith) (omega arith) wₛ costs-only, (L, (G, (omega (arith, same, Y .long), subst (Befores (nodes l)) (ap (λ (q : Outcome). q .before) (sym X)) (sound-seek l L allowed (squaresOf 1 m (l .grid .nx) (l .grid .ny)))))))
+    pub trace-asks : (t : List ℕ) → Tiled (s .grid) m t → Fitted s vs lens m wₛ × (Tiled (s .grid) m t × (Laid l × ((l .grid ≡ s .grid) × ((15 * cells l ≤ length u₁) × Befores (nodes l) (beforeIn l u₁)))))
+    trace-asks t T =
+        (fitted-kept s vs lens m w F a e (omega arith) (omega arith) (omega arith) wₛ costs-only, (T, (L, (G, (omega (arith, same, Y .long), subst (Befores (nodes l)) (ap (λ (q : Outcome). q .before) (sym X)) (sound-seek l L allowed (squaresOf 1 m (l .grid .nx) (l .grid .ny))))))))
 
     module _ (from to : Vec2) where
       by : linked (cond (o .found) (shortenOf (linkClear s (wallIn s w) vs lens m) (nodesOf l (beforeIn l u₁) to) from) lost) (o .expanded * 8)

@@ -1,6 +1,6 @@
 -- The search from its beginning: every open node is one of the lattice's, and the turns of the code are those of the definition. Assumes nothing.
 use mathlib.Core.Path.{_≡_, refl, sym, ap, _∙_, subst}
-use mathlib.Core.Bool.{Bool, true, false}
+use mathlib.Core.Bool.{Bool, true, false, _&&_, _||_, cond}
 use mathlib.Core.List.{List, [], _∷_, _++_}
 use Prim.Native.Nat.{ℕ, zero, suc, _+_, _-_, _*_, _≤_, _<_}
 use native.Mathlib.Omega.{arith}
@@ -13,7 +13,7 @@ use borrow.Rule.Slice.PartMut.{putMid}
 use Rattle.loops.proofs.FillLaws.{filled-length}
 use Rattle.loops.specs.Loop.{loop, Run, on, out, turn}
 use Rattle.loops.proofs.Cases.{by-test}
-use Rattle.loops.proofs.LoopLaws.{loop-keeps, Going, going-none, going-on, going-out, going-end}
+use Rattle.loops.proofs.LoopLaws.{loop-keeps, loop-both, Going, going-none, going-on, going-out, going-end}
 use Rattle.loops.specs.Regions.{Fits, within}
 use Rattle.loops.proofs.RegionLaws.{region-long}
 use Rattle.loops.specs.Frame.{Only}
@@ -28,7 +28,7 @@ use Rattle.links.specs.declared.lattice.Neighbour.the-variants.{Off, At}
 use Rattle.links.specs.declared.search.Turn.{Turn}
 use Rattle.links.specs.declared.search.Turn.the-variants.{On, Out}
 use Rattle.links.specs.Heap.{insert, one, count, listed}
-use Rattle.links.specs.Lattice.{nodes, centreOf, besideOf, IsNode, Laid}
+use Rattle.links.specs.Lattice.{nodes, cellOfNode, centreOf, nodeFree, besideOf, IsNode, Laid, Telling}
 use Rattle.links.specs.Search.{Search, st, top, noNode, entry, started, opened, reopened, improved, candidate, offerOf, reachable, visitAt, visitOf, expandOf, Outcome, outcome, seekNext, seekStep, ended, seekOf, searchIn, Ready, Grown, cells, squaresIn, wordsIn, Searching, Visited, Befores, Sound, outcomeIn, turnIn, Room, Turned}
 use Rattle.links.specs.declared.search.Sought.{Sought}
 use Rattle.links.proofs.LatticeLaws.{nodes-few, nodes-most, nodes-pos, beside-node}
@@ -354,6 +354,37 @@ module _ (l : Lattice) (L : Laid l) (u : List ℕ) (costs : List Float) (A : 15 
         → (outcomeIn l o u₂ ≡ seekOf l allowed (squaresIn l u)) × (Only (5 * cells l) (15 * cells l) u u₂ × (z ≡ length costs))
     seek-is allowed o u₂ z X Y Z =
         (X ∙ ap (seekOf l allowed) (squares-same l u u₁ A first), (only-more (5 * cells l) (15 * cells l) u part u₁ first u₂ Y, Z ∙ G .costs-long))
+
+-- ---- by words that tell the nodes as the squares do
+
+module _ (l : Lattice) (allowed squares words : List ℕ) (T : Telling l squares words) where
+  visit-same : (v : NodeNo) (d : ℕ) (s : Search) (b : Neighbour) → b ≡ besideOf l v d → visitAt l allowed words v b s ≡ visitAt l allowed squares v b s
+  unfolding visitAt reachable nodeFree
+  visit-same v d s Off e = refl
+  visit-same v d s (At t) e =
+      ap (λ (b : Bool). cond (eqb (t .0) (l .goal .0) || (eqb (getD allowed (cellOfNode l t .0) 0) 1 && b)) (offerOf l v t s) s) (T .node t (beside-node l v t d (At t) e refl))
+
+  expand-same : (v : NodeNo) (s : Search) → expandOf l allowed words v s ≡ expandOf l allowed squares v s
+  unfolding expandOf visitOf
+  expand-same v s =
+      loop-both (visitOf l allowed words v) (visitOf l allowed squares v) (λ _ (t u : Search). t ≡ u) 0 8 (omega arith)
+      (λ d t u a b e. visit-same v d t (besideOf l v d) refl ∙ ap (visitOf l allowed squares v d) e) s s refl
+
+  next-same : (i : ℕ) (s : Search) (q : List Entry) → seekNext l allowed words i s q ≡ seekNext l allowed squares i s q
+  unfolding seekNext
+  next-same i s [] = refl
+  next-same i s (e ∷ r) = rw (expand-same (e .node) (st (s .cost) (s .before) r)) refl
+
+  turn-same : (i : ℕ) (r : Run Search Outcome) → turn (seekStep l allowed words) i r ≡ turn (seekStep l allowed squares) i r
+  unfolding turn seekStep
+  turn-same i (on s) = next-same i s (s .queue)
+  turn-same i (out o) = refl
+
+  pub seek-same : seekOf l allowed words ≡ seekOf l allowed squares
+  unfolding seekOf
+  seek-same =
+      ap ended (loop-both (turn (seekStep l allowed words)) (turn (seekStep l allowed squares)) (λ _ (r q : Run Search Outcome). r ≡ q) 0 (nodes l + 1) (omega arith)
+      (λ i r q a b e. turn-same i r ∙ ap (turn (seekStep l allowed squares) i) e) (on (started l)) (on (started l)) refl)
 
 -- ---- a filled part that comes back
 

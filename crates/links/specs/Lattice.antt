@@ -117,3 +117,7 @@ boundOf x = record { scaled = false; scale = f1; strict = false; x = x }
 -- what the squares up to the margin are
 abbrev pub Limited : Lattice → Limit → Type 0
 Limited l m = LimitOf false f1 false (l .margin) (m .told) (m .below)
+
+-- the words tell of each node's cell what the squares do: whether it is farther from stock than the margin
+pub record Telling (l : Lattice) (squares words : List ℕ) : Type 0 where
+  pub node : (v : NodeNo) → IsNode l v → lt (l .margin) (rootedOf (getD words (cellOfNode l v .0) 0)) ≡ lt (l .margin) (rootedOf (getD squares (cellOfNode l v .0) 0))

@@ -1,13 +1,15 @@
 // A way of straight feeds through cleared space: straight, or over the lattice.
 ghost use mathlib.Core.Path.{_≡_};
+ghost use mathlib.Core.Bool.{true};
 ghost use Prim.Native.Nat.{_*_, _≤_};
 ghost use lib.ListN.{length};
 ghost use Rattle.loops.specs.Frame.{Only};
 ghost use Rattle.distance.specs.Nearest.{squaresOf};
 ghost use Rattle.raster.specs.Grid.{Over};
-ghost use Rattle.setup.specs.Layout.{costFrom, pathEnd, pathFrom, segmentsFrom};
+ghost use Rattle.rims.specs.Tiles.{Tiled};
+ghost use Rattle.setup.specs.Layout.{beforeFrom, costFrom, pathEnd, pathFrom, segmentsFrom};
 ghost use Rattle.setup.specs.Place.{cellsOf};
-ghost use Rattle.links.specs.Lattice.{nodes, Laid};
+ghost use Rattle.links.specs.Lattice.{nodes, Laid, Limited, Telling};
 ghost use Rattle.links.specs.Search.{seekOf, cells, Befores, outcomeIn};
 ghost use Rattle.links.specs.Path.{nodesOf, shortenOf, wallIn, clearIn, Fitted, shortIn};
 ghost use Rattle.links.specs.Link.{aroundOf, linkPath, linkedIn, workOf, beforeIn};
@@ -17,6 +19,9 @@ use super::lattice::limit_of;
 use super::lattice::nodes_of;
 use super::path::Shortened;
 use super::search::Sought;
+use dilation::window::Bounds;
+use dilation::window::Window;
+use distance::limits::Limit;
 use geom::vec2::Vec2;
 use raster::grid::Found;
 use setup::Setup;
@@ -37,7 +42,46 @@ pub fn work_of(r: Route) -> usize
     }
 }
 
-// The squares of the distance to stock, then the search.
+// By a dilation of stock that tells only the rows of nodes, and the last.
+fn shade_nodes(l: Lattice, limit: Limit, map: &[u8], work: &mut [u32])
+    requires { ⌜ Laid l ⌝ }
+    requires { ⌜ Limited l limit ⌝ }
+    requires { ⌜ (limit .told ≡ true) × (limit .below ≤ 67108864) ⌝ }
+    requires { ⌜ Over (l .grid) (length (now map)) ⌝ }
+    requires { ⌜ cells l ≤ length (now work) ⌝ }
+    ensures { λ _. ⌜ Telling l (squaresOf 1 (now (map .entry)) (l .grid .nx) (l .grid .ny)) (now (work .exit)) ⌝ }
+    ensures { λ _. ⌜ length (now (work .exit)) ≡ length (now (work .entry)) ⌝ }
+{
+    let w = Window {
+        lo: 0,
+        hi: l.grid.ny,
+        left: 0,
+        right: l.grid.nx,
+    };
+    let b = Bounds {
+        near: 0,
+        far: limit.below,
+    };
+    dilation::window::shade(map, l.grid.nx, w, l.k, l.k / 2, b, work);
+}
+
+// Words that tell the nodes as the squares of the distance to stock do: a dilation's, where it takes the limit.
+fn tell_nodes(l: Lattice, limit: Limit, map: &[u8], work: &mut [u32])
+    requires { ⌜ Laid l ⌝ }
+    requires { ⌜ Limited l limit ⌝ }
+    requires { ⌜ Over (l .grid) (length (now map)) ⌝ }
+    requires { ⌜ beforeFrom (cells l) ≤ length (now work) ⌝ }
+    ensures { λ _. ⌜ Telling l (squaresOf 1 (now (map .entry)) (l .grid .nx) (l .grid .ny)) (now (work .exit)) ⌝ }
+    ensures { λ _. ⌜ length (now (work .exit)) ≡ length (now (work .entry)) ⌝ }
+{
+    if limit.told & (limit.below <= 67108864) {
+        shade_nodes(l, limit, map, work);
+        return;
+    }
+    distance::transform(map, 1, l.grid.nx, l.grid.ny, work);
+}
+
+// What tells the nodes, then the search.
 fn search(l: Lattice, map: &[u8], allowed: &[u8], u: &mut [u32], costs: &mut [f64]) -> Sought
     requires { ⌜ Laid l ⌝ }
     requires { ⌜ Over (l .grid) (length (now map)) ⌝ }
@@ -49,8 +93,8 @@ fn search(l: Lattice, map: &[u8], allowed: &[u8], u: &mut [u32], costs: &mut [f6
     ensures { λ _. ⌜ length (now (costs .exit)) ≡ length (now (costs .entry)) ⌝ }
 {
     let end = layout::before(layout::cells(l.grid));
-    distance::transform(map, 1, l.grid.nx, l.grid.ny, &mut u[0..end]);
     let limit = limit_of(l);
+    tell_nodes(l, limit, map, &mut u[0..end]);
     super::search::seek(l, limit, allowed, u, costs)
 }
 
@@ -60,6 +104,7 @@ fn trace(
     vs: &[f64],
     lens: &[u32],
     map: &[u8],
+    tiles: &[u8],
     u: &[u32],
     w: &mut [f64],
     l: Lattice,
@@ -67,6 +112,7 @@ fn trace(
     to: Vec2,
 ) -> Shortened
     requires { ⌜ Fitted s (now vs) (now lens) (now map) (now w) ⌝ }
+    requires { ⌜ Tiled (s .grid) (now map) (now tiles) ⌝ }
     requires { ⌜ Laid l ⌝ }
     requires { ⌜ l .grid ≡ s .grid ⌝ }
     requires { ⌜ segmentsFrom (cells l) ≤ length (now u) ⌝ }
@@ -81,7 +127,7 @@ fn trace(
     let a = layout::path(size);
     let e = a + 3 * size;
     let k = super::path::lay(l, &u[first..last], &mut w[a..e], to);
-    super::path::shorten(s, vs, lens, map, w, from, k, n)
+    super::path::shorten(s, vs, lens, map, tiles, w, from, k, n)
 }
 
 // The way over the lattice.
@@ -90,6 +136,7 @@ fn around(
     vs: &[f64],
     lens: &[u32],
     map: &[u8],
+    tiles: &[u8],
     allowed: &[u8],
     u: &mut [u32],
     w: &mut [f64],
@@ -98,6 +145,7 @@ fn around(
     to: Vec2,
 ) -> Route
     requires { ⌜ Fitted s (now vs) (now lens) (now map) (now w) ⌝ }
+    requires { ⌜ Tiled (s .grid) (now map) (now tiles) ⌝ }
     requires { ⌜ Laid l ⌝ }
     requires { ⌜ l .grid ≡ s .grid ⌝ }
     requires { ⌜ Over (s .grid) (length (now allowed)) ⌝ }
@@ -114,7 +162,7 @@ fn around(
     if !o.found {
         return Route::Lost(work);
     }
-    let k = trace(s, vs, lens, map, u, w, l, from, to);
+    let k = trace(s, vs, lens, map, tiles, u, w, l, from, to);
     match k {
         Shortened::Blocked => Route::Lost(work),
         Shortened::Points(points) => Route::Along(points, work),
@@ -141,7 +189,9 @@ pub fn link_path(
     ensures { λ _. ⌜ Only 0 (segmentsFrom (cellsOf s)) (now (u .entry)) (now (u .exit)) ⌝ }
     ensures { λ _. ⌜ Only (costFrom (cellsOf s)) (pathEnd (cellsOf s)) (now (w .entry)) (now (w .exit)) ⌝ }
 {
-    if super::path::clear(s, vs, lens, map, w, from, to) {
+    let mut tiles = [0u8; 20480];
+    rims::tiles::fill(s.grid, map, &mut tiles);
+    if super::path::clear(s, vs, lens, map, &tiles, w, from, to) {
         super::path::keep(s, w, 0, to);
         return Route::Along(1, 0);
     }
@@ -155,5 +205,5 @@ pub fn link_path(
         return Route::Lost(0);
     };
     let l = lattice_of(s, i, j, p, q);
-    around(s, vs, lens, map, allowed, u, w, l, from, to)
+    around(s, vs, lens, map, &tiles, allowed, u, w, l, from, to)
 }

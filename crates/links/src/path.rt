@@ -7,6 +7,7 @@ ghost use Rattle.loops.specs.Frame.{Only};
 ghost use Rattle.geom.specs.Region.{vertexOf};
 ghost use Rattle.geom.specs.Points.{putPoint, points};
 ghost use Rattle.raster.specs.Grid.{Sides};
+ghost use Rattle.rims.specs.Tiles.{Tiled};
 ghost use Rattle.setup.specs.Layout.{pathEnd, pathFrom, rimFrom};
 ghost use Rattle.setup.specs.Place.{cellsOf};
 ghost use Rattle.links.specs.Lattice.{nodes, Laid};
@@ -68,14 +69,24 @@ pub fn lay(l: Lattice, before: &[u32], ps: &mut [f64], to: Vec2) -> usize
 }
 
 // Whether a straight feed is clear, by the workspace's f64.
-pub fn clear(s: Setup, vs: &[f64], lens: &[u32], map: &[u8], w: &[f64], a: Vec2, b: Vec2) -> bool
+pub fn clear(
+    s: Setup,
+    vs: &[f64],
+    lens: &[u32],
+    map: &[u8],
+    tiles: &[u8],
+    w: &[f64],
+    a: Vec2,
+    b: Vec2,
+) -> bool
     requires { ⌜ Fitted s (now vs) (now lens) (now map) (now w) ⌝ }
+    requires { ⌜ Tiled (s .grid) (now map) (now tiles) ⌝ }
     ensures { λ t. ⌜ t ≡ clearIn s (now (vs .entry)) (now (lens .entry)) (now (map .entry)) (now (w .entry)) a b ⌝ }
 {
     let n = layout::cells(s.grid);
     let rim = layout::rim(n);
     let end = layout::tables_end(n);
-    link_clear(s, &w[0..n], vs, lens, map, &w[rim..end], a, b)
+    link_clear(s, &w[0..n], vs, lens, map, tiles, &w[rim..end], a, b)
 }
 
 // Point k of the path.
@@ -97,12 +108,14 @@ fn farthest(
     vs: &[f64],
     lens: &[u32],
     map: &[u8],
+    tiles: &[u8],
     w: &[f64],
     here: Vec2,
     first: usize,
     end: usize,
 ) -> Seen
     requires { ⌜ Fitted s (now vs) (now lens) (now map) (now w) ⌝ }
+    requires { ⌜ Tiled (s .grid) (now map) (now tiles) ⌝ }
     requires { ⌜ first ≤ end ⌝ }
     requires { ⌜ 2 * end ≤ 3 * cellsOf s ⌝ }
     ensures { λ r. ⌜ r ≡ farthestOf (clearIn s (now (vs .entry)) (now (lens .entry)) (now (map .entry)) (now (w .entry))) (vertexOf (pathIn s (now (w .entry)))) here first (end - first) ⌝ }
@@ -111,7 +124,7 @@ fn farthest(
     while first < k {
         k = k - 1;
         let p = point(s, w, k);
-        if clear(s, vs, lens, map, w, here, p) {
+        if clear(s, vs, lens, map, tiles, w, here, p) {
             return Seen::Point(k);
         }
     }
@@ -139,12 +152,14 @@ pub fn shorten(
     vs: &[f64],
     lens: &[u32],
     map: &[u8],
+    tiles: &[u8],
     w: &mut [f64],
     from: Vec2,
     at: usize,
     end: usize,
 ) -> Shortened
     requires { ⌜ Fitted s (now vs) (now lens) (now map) (now w) ⌝ }
+    requires { ⌜ Tiled (s .grid) (now map) (now tiles) ⌝ }
     requires { ⌜ at ≤ end ⌝ }
     requires { ⌜ 2 * end ≤ 3 * cellsOf s ⌝ }
     ensures { λ r. ⌜ shortIn s r (now (w .exit)) ≡ shortenOf (clearIn s (now (vs .entry)) (now (lens .entry)) (now (map .entry)) (now (w .entry))) (points at (end - at) (pathIn s (now (w .entry)))) from ⌝ }
@@ -154,7 +169,7 @@ pub fn shorten(
     let mut first = at;
     let mut kept = 0;
     while first < end {
-        let f = farthest(s, vs, lens, map, w, here, first, end);
+        let f = farthest(s, vs, lens, map, tiles, w, here, first, end);
         let Seen::Point(k) = f else {
             return Shortened::Blocked;
         };

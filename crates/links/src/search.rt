@@ -1,7 +1,7 @@
 // The search for a way over the lattice. Two slices hold its state: a number for each node (the node
 // before it; its cost), then the heap of open entries (their nodes; their estimates). In the u32 of the
-// workspace, of n cells, the squares of the distance to stock are at 0 and the state is where setup's layout
-// has the nodes before and the heap.
+// workspace, of n cells, the squares of the distance to stock, or words that tell the nodes as they do, are at
+// 0 and the state is where setup's layout has the nodes before and the heap.
 ghost use mathlib.Core.Path.{_≡_};
 ghost use mathlib.Core.List.{_++_};
 ghost use Prim.Native.Nat.{_+_, _-_, _*_, _≤_, _<_};

@@ -3,6 +3,7 @@ ghost use mathlib.Core.Path.{_≡_};
 ghost use Prim.Native.Nat.{_≤_, _<_};
 ghost use lib.ListN.{length};
 ghost use Rattle.raster.specs.Grid.{Over};
+ghost use Rattle.rims.specs.Tiles.{Tiled};
 ghost use Rattle.setup.specs.Place.{Walls};
 ghost use Rattle.setup.specs.Tables.{lessOf, Tables};
 ghost use Rattle.links.specs.Straight.{stepsOf, pointOf, clearAt, samplesClear, linkClear};
@@ -33,16 +34,18 @@ fn clear_at(
     vs: &[f64],
     lens: &[u32],
     map: &[u8],
+    tiles: &[u8],
     rim: &[f64],
     q: Vec2,
 ) -> bool
     requires { ⌜ Walls s (now wall) (now vs) (now lens) ⌝ }
     requires { ⌜ Over (s .grid) (length (now map)) ⌝ }
+    requires { ⌜ Tiled (s .grid) (now map) (now tiles) ⌝ }
     requires { ⌜ Tables s (now rim) ⌝ }
     ensures { λ b. ⌜ b ≡ clearAt s (now (wall .entry)) (now (vs .entry)) (now (lens .entry)) (now (map .entry)) (lessOf s) q ⌝ }
 {
     if setup::place::allowed_at(s, wall, vs, lens, q) {
-        return angle_of(setup::place::contact_less(s, map, rim, q)) == 0.0;
+        return angle_of(setup::place::contact_less(s, map, tiles, rim, q)) == 0.0;
     }
     false
 }
@@ -54,6 +57,7 @@ fn samples_clear(
     vs: &[f64],
     lens: &[u32],
     map: &[u8],
+    tiles: &[u8],
     rim: &[f64],
     a: Vec2,
     b: Vec2,
@@ -61,13 +65,14 @@ fn samples_clear(
 ) -> bool
     requires { ⌜ Walls s (now wall) (now vs) (now lens) ⌝ }
     requires { ⌜ Over (s .grid) (length (now map)) ⌝ }
+    requires { ⌜ Tiled (s .grid) (now map) (now tiles) ⌝ }
     requires { ⌜ Tables s (now rim) ⌝ }
     requires { ⌜ n ≤ 200000 ⌝ }
     ensures { λ t. ⌜ t ≡ samplesClear s (now (wall .entry)) (now (vs .entry)) (now (lens .entry)) (now (map .entry)) (lessOf s) a b n ⌝ }
 {
     for k in 0..n + 1 {
         let q = point_of(a, b, n, k);
-        if !clear_at(s, wall, vs, lens, map, rim, q) {
+        if !clear_at(s, wall, vs, lens, map, tiles, rim, q) {
             return false;
         }
     }
@@ -82,12 +87,14 @@ pub fn link_clear(
     vs: &[f64],
     lens: &[u32],
     map: &[u8],
+    tiles: &[u8],
     rim: &[f64],
     a: Vec2,
     b: Vec2,
 ) -> bool
     requires { ⌜ Walls s (now wall) (now vs) (now lens) ⌝ }
     requires { ⌜ Over (s .grid) (length (now map)) ⌝ }
+    requires { ⌜ Tiled (s .grid) (now map) (now tiles) ⌝ }
     requires { ⌜ Tables s (now rim) ⌝ }
     ensures { λ t. ⌜ t ≡ linkClear s (now (wall .entry)) (now (vs .entry)) (now (lens .entry)) (now (map .entry)) a b ⌝ }
 {
@@ -97,7 +104,7 @@ pub fn link_clear(
         return false;
     }
     let r = s.r - g.cell;
-    if samples_clear(s, wall, vs, lens, map, rim, a, b, n) {
+    if samples_clear(s, wall, vs, lens, map, tiles, rim, a, b, n) {
         return raster::stock::count_disk(g, map, b, r) == 0;
     }
     false

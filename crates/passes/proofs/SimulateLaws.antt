@@ -1,13 +1,14 @@
 -- Each way through the functions of `trial`, over plain values: callees' results are variables, what they ensure are hypotheses. Assumes nothing.
 use mathlib.Core.Path.{_≡_, refl, sym, ap, _∙_, subst}
 use mathlib.Core.Bool.{Bool, true, false}
-use mathlib.Core.List.{List}
-use Prim.Native.Nat.{ℕ, _+_, _-_, _/_, _≤_, _<_, max}
+use mathlib.Core.List.{List, [], _∷_}
+use Prim.Native.Nat.{ℕ, zero, suc, _+_, _-_, _/_, _≤_, _<_, max}
 use native.Mathlib.Omega.{arith}
-use lib.ListN.{length, getD, length-set}
+use lib.ListN.{length, getD, set, length-set}
 use lib.Ieee.{Float, binary64, toUnsigned, add, mul, div, lt}
 use borrow.Author.Tests.{le-leb, lt-leb}
 use Rattle.loops.specs.Loop.{loop, on, out, turn}
+use Rattle.loops.proofs.Cases.{never}
 use Rattle.numbers.specs.Whole.{ceilOf}
 use Rattle.numbers.specs.Small.{f2, tiny}
 use Rattle.geom.specs.Vec.{f0, difference, lerpOf, perpOf, distanceOf, lengthOf, normalizedOf}
@@ -19,7 +20,8 @@ use Rattle.raster.specs.Grid.{Over}
 use Rattle.numbers.specs.Cast.{float}
 use Rattle.raster.specs.Log.{Stock, st, Ready, clearAfter}
 use Rattle.raster.specs.declared.grid.Grid.{Grid}
-use Rattle.raster.proofs.LogLaws.{Kept, kept-none, kept-cell, keep-after, ready-kept}
+use Rattle.raster.proofs.LogLaws.{Kept, cell-cases, kept-none, kept-cell, keep-after, ready-kept}
+use Rattle.rims.proofs.TileLaws.{Fewer}
 use Rattle.setup.specs.declared.Setup.{Setup}
 use Rattle.events.specs.Lent.{Triple, tripleAt, setTriple}
 use Rattle.passes.specs.declared.shifts.Shift.the-variants.{At, Nothing}
@@ -74,10 +76,24 @@ module _ (s : Setup) (kept : ℕ) (q : Vec2) (e x : Float) where
 
 pub record Safe (kept : ℕ) (p t : Pass) : Type 0 where
   pub cells-long : length (t .cells) ≡ length (p .cells)
+  pub fewer : Fewer (p .cells) (t .cells)
   pub log-long : length (t .log) ≡ length (p .log)
   pub out-long : length (t .out) ≡ length (p .out)
   pub ready : Ready (st (t .cells) (t .log) (t .trial .removed))
   pub room : kept + t .trial .points ≤ length (p .out) / 3
+
+-- a cell that is cleared is stock no more
+fewer-set : (m : List ℕ) (j : ℕ) → Fewer m (set m j 0)
+fewer-set [] j k e = e
+fewer-set (x ∷ m) zero zero e = never e
+fewer-set (x ∷ m) zero (suc k) e = e
+fewer-set (x ∷ m) (suc j) zero e = e
+fewer-set (x ∷ m) (suc j) (suc k) e = fewer-set m j k e
+
+fewer-after : (g : Grid) (prev q : Vec2) (rad : Float) (s : Stock) → Fewer (s .cells) (clearAfter g prev q rad s .cells)
+fewer-after g prev q rad s =
+    let P : Stock → Type 0 = λ t. Fewer (s .cells) (t .cells) in
+    keep-after P (λ k t h. cell-cases P k t (λ e i b. h i (fewer-set (t .cells) k i b)) h) g prev q rad s (λ i b. b)
 
 pub kept-after : (g : Grid) (prev q : Vec2) (rad : Float) (s : Stock) → Ready s → Kept s (clearAfter g prev q rad s)
 kept-after g prev q rad s r = keep-after (Kept s) (kept-cell s r) g prev q rad s (kept-none s)
@@ -90,6 +106,7 @@ module _ (s : Setup) (kept : ℕ) (q : Vec2) (e x : Float) (p t : Pass) (h : Saf
   unfolding advanceOf
   safe-advance = record {
     cells-long = cleared .cells-long ∙ h .cells-long;
+    fewer = λ i b. h .fewer i (fewer-after (s .grid) (t .trial .prev) q (s .r) _ i b);
     log-long = cleared .log-long ∙ h .log-long;
     out-long = long-put (kept + t .trial .points) (tripleAt q e) (t .out) ∙ h .out-long;
     ready = ready-kept _ _ (h .ready) cleared;
@@ -97,11 +114,12 @@ module _ (s : Setup) (kept : ℕ) (q : Vec2) (e x : Float) (p t : Pass) (h : Saf
   }
 
 pub safe-none : (kept : ℕ) (p : Pass) → Ready (st (p .cells) (p .log) (p .trial .removed)) → kept + p .trial .points ≤ length (p .out) / 3 → Safe kept p p
-safe-none kept p r h = record { cells-long = refl; log-long = refl; out-long = refl; ready = r; room = h }
+safe-none kept p r h = record { cells-long = refl; fewer = λ i b. b; log-long = refl; out-long = refl; ready = r; room = h }
 
 pub safe-then : (kept : ℕ) (p t u : Pass) → Safe kept p t → Safe kept t u → Safe kept p u
 safe-then kept p t u a b = record {
   cells-long = b .cells-long ∙ a .cells-long;
+  fewer = λ i d. a .fewer i (b .fewer i d);
   log-long = b .log-long ∙ a .log-long;
   out-long = b .out-long ∙ a .out-long;
   ready = b .ready;
@@ -109,7 +127,7 @@ safe-then kept p t u a b = record {
 }
 
 pub safe-spent : (kept w : ℕ) (p t : Pass) → Safe kept p t → Safe kept p (spent w t)
-safe-spent kept w p t h = record { cells-long = h .cells-long; log-long = h .log-long; out-long = h .out-long; ready = h .ready; room = h .room }
+safe-spent kept w p t h = record { cells-long = h .cells-long; fewer = h .fewer; log-long = h .log-long; out-long = h .out-long; ready = h .ready; room = h .room }
 
 pub point-in : (w : List Float) (n k : ℕ) → k < n → getD (points 0 n w) k nowhere ≡ vertexOf w k
 point-in w n k h = points-get 0 n k w nowhere h ∙ ap (vertexOf w) (let z : 0 + k ≡ k = omega arith in z)

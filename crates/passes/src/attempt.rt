@@ -46,7 +46,22 @@ pub fn try_guide(
 {
     let g = s.grid;
     let cell = g.cell;
-    let t = simulate(s, wall, vs, lens, rim, guide, map, log, triples, kept);
+    // They hold to the pass's end: it only clears.
+    let mut tiles = [0u8; 20480];
+    rims::tiles::fill(g, map, &mut tiles);
+    let t = simulate(
+        s,
+        wall,
+        vs,
+        lens,
+        rim,
+        guide,
+        map,
+        &tiles,
+        log,
+        triples,
+        kept,
+    );
     raster::log::undo(map, log, t.removed);
     if t.full {
         return Attempt::Full;

@@ -2,6 +2,7 @@
 ghost use mathlib.Core.Path.{_≡_};
 ghost use lib.ListN.{length};
 ghost use Rattle.raster.specs.Grid.{Over};
+ghost use Rattle.rims.specs.Tiles.{Tiled};
 ghost use Rattle.setup.specs.Place.{Walls, allowedAt};
 ghost use Rattle.setup.specs.Tables.{Tables};
 ghost use Rattle.passes.specs.Shifts.{maxShift, satAdd, movedOf, probeOf, tryOf, easeOf, searchOf};
@@ -60,15 +61,17 @@ fn probe_at(
     lens: &[u32],
     rim: &[f64],
     map: &[u8],
+    tiles: &[u8],
     q: Vec2,
 ) -> Probe
     requires { ⌜ Walls s (now wall) (now vs) (now lens) ⌝ }
     requires { ⌜ Tables s (now rim) ⌝ }
     requires { ⌜ Over (s .grid) (length (now map)) ⌝ }
+    requires { ⌜ Tiled (s .grid) (now map) (now tiles) ⌝ }
     ensures { λ p. ⌜ p ≡ probeOf s (allowedAt s (now (wall .entry)) (now (vs .entry)) (now (lens .entry))) (now (map .entry)) q ⌝ }
 {
     if setup::place::allowed_at(s, wall, vs, lens, q) {
-        return Probe::Counted(setup::place::contact_wide(s, map, rim, q));
+        return Probe::Counted(setup::place::contact_wide(s, map, tiles, rim, q));
     }
     Probe::Barred
 }
@@ -81,6 +84,7 @@ fn try_shift(
     lens: &[u32],
     rim: &[f64],
     map: &[u8],
+    tiles: &[u8],
     g: Vec2,
     left: Vec2,
     sh: f64,
@@ -90,10 +94,11 @@ fn try_shift(
     requires { ⌜ Walls s (now wall) (now vs) (now lens) ⌝ }
     requires { ⌜ Tables s (now rim) ⌝ }
     requires { ⌜ Over (s .grid) (length (now map)) ⌝ }
+    requires { ⌜ Tiled (s .grid) (now map) (now tiles) ⌝ }
     ensures { λ r. ⌜ r ≡ tryOf s (allowedAt s (now (wall .entry)) (now (vs .entry)) (now (lens .entry))) (now (map .entry)) g left sh limit work ⌝ }
 {
     let q = moved(g, left, sh);
-    let p = probe_at(s, wall, vs, lens, rim, map, q);
+    let p = probe_at(s, wall, vs, lens, rim, map, tiles, q);
     match p {
         Probe::Barred => Search {
             found: Shift::Nothing,
@@ -124,6 +129,7 @@ fn ease(
     lens: &[u32],
     rim: &[f64],
     map: &[u8],
+    tiles: &[u8],
     g: Vec2,
     left: Vec2,
     step: f64,
@@ -133,11 +139,25 @@ fn ease(
     requires { ⌜ Walls s (now wall) (now vs) (now lens) ⌝ }
     requires { ⌜ Tables s (now rim) ⌝ }
     requires { ⌜ Over (s .grid) (length (now map)) ⌝ }
+    requires { ⌜ Tiled (s .grid) (now map) (now tiles) ⌝ }
     ensures { λ r. ⌜ r ≡ easeOf s (allowedAt s (now (wall .entry)) (now (vs .entry)) (now (lens .entry))) (now (map .entry)) g left step shift work ⌝ }
 {
     if shift > 0.0 {
         let sh = numbers::order::max(shift - step, 0.0);
-        return try_shift(s, wall, vs, lens, rim, map, g, left, sh, s.target, work);
+        return try_shift(
+            s,
+            wall,
+            vs,
+            lens,
+            rim,
+            map,
+            tiles,
+            g,
+            left,
+            sh,
+            s.target,
+            work,
+        );
     }
     Search {
         found: Shift::Nothing,
@@ -153,6 +173,7 @@ pub fn find_shift(
     lens: &[u32],
     rim: &[f64],
     map: &[u8],
+    tiles: &[u8],
     g: Vec2,
     left: Vec2,
     step: f64,
@@ -163,9 +184,23 @@ pub fn find_shift(
     requires { ⌜ Walls s (now wall) (now vs) (now lens) ⌝ }
     requires { ⌜ Tables s (now rim) ⌝ }
     requires { ⌜ Over (s .grid) (length (now map)) ⌝ }
+    requires { ⌜ Tiled (s .grid) (now map) (now tiles) ⌝ }
     ensures { λ r. ⌜ r ≡ searchOf s (allowedAt s (now (wall .entry)) (now (vs .entry)) (now (lens .entry))) (now (map .entry)) g left step most shift work ⌝ }
 {
-    let eased = ease(s, wall, vs, lens, rim, map, g, left, step, shift, work);
+    let eased = ease(
+        s,
+        wall,
+        vs,
+        lens,
+        rim,
+        map,
+        tiles,
+        g,
+        left,
+        step,
+        shift,
+        work,
+    );
     let back = eased.found;
     if let Shift::At(q, e, x) = back {
         return eased;
@@ -182,7 +217,7 @@ pub fn find_shift(
         if !(sh <= most + 1e-12) {
             break Shift::Nothing;
         }
-        let t = try_shift(s, wall, vs, lens, rim, map, g, left, sh, guard, w);
+        let t = try_shift(s, wall, vs, lens, rim, map, tiles, g, left, sh, guard, w);
         w = t.work;
         let f = t.found;
         if let Shift::At(q, e, x) = f {

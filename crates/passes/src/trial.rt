@@ -4,6 +4,7 @@ ghost use Prim.Native.Nat.{_+_, _*_, _/_, _-_, _≤_, _<_};
 ghost use lib.ListN.{length};
 ghost use Rattle.geom.specs.Region.{vertexOf};
 ghost use Rattle.geom.specs.Points.{points};
+ghost use Rattle.rims.specs.Tiles.{Tiled};
 ghost use Rattle.setup.specs.Place.{Walls, allowedAt};
 ghost use Rattle.setup.specs.Tables.{Tables};
 ghost use Rattle.passes.specs.Simulate.{legOf, sampleOf, gapOf, ps, advanceOf, simulateOf, Usable, Fit};
@@ -121,6 +122,7 @@ pub fn simulate(
     rim: &[f64],
     guide: &[f64],
     map: &mut [u8],
+    tiles: &[u8],
     log: &mut [u32],
     triples: &mut [f64],
     kept: usize,
@@ -128,6 +130,7 @@ pub fn simulate(
     requires { ⌜ Walls s (now wall) (now vs) (now lens) ⌝ }
     requires { ⌜ Tables s (now rim) ⌝ }
     requires { ⌜ Usable s (now map) (now log) (now guide) ⌝ }
+    requires { ⌜ Tiled (s .grid) (now map) (now tiles) ⌝ }
     ensures { λ r. ⌜ ps (now (map .exit)) (now (log .exit)) (now (triples .exit)) r ≡ simulateOf s (allowedAt s (now (wall .entry)) (now (vs .entry)) (now (lens .entry))) (points 0 (length (now (guide .entry)) / 2) (now (guide .entry))) kept (now (map .entry)) (now (log .entry)) (now (triples .entry)) ⌝ }
 {
     let first = vertex(guide, 0);
@@ -170,6 +173,7 @@ pub fn simulate(
                 lens,
                 rim,
                 map,
+                tiles,
                 at,
                 left,
                 step,

@@ -30,8 +30,9 @@ use Rattle.spans.proofs.EdgeLaws.{share-from, tame-size, column-edged, row-edge
 use Rattle.rims.specs.Offsets.{reachOf, Roomy, Rims}
 use Rattle.rims.specs.Offsets as Offsets
 use Rattle.spans.specs.Spans.{word}
-use Rattle.rims.specs.Boxes.{Apart, Started, Two, EdgesIn, EdgesTo, Near, Entry, EntriesTo, Boxed}
-use Rattle.rims.proofs.FirstLaws.{firsts-same, firsts-after, apart-none, apart-set, apart-more, apart-wider}
+use Rattle.rims.specs.Boxes.{Apart, Started, Two, EdgesIn, EdgesTo, Near, Entry, EntriesTo, Numbers, BlocksTo, Boxed}
+use Rattle.rims.proofs.FirstLaws.{firsts-same, firsts-after, apart-none, apart-set, apart-more, apart-wider, with-last}
+use Rattle.rims.proofs.BlockLaws.{blocks-same}
 
 -- ---- along one axis
 
@@ -124,23 +125,12 @@ module _ (g : Grid) (r : Float) (n at s : ℕ) where
   pub entries-none : (w : List Float) → EntriesTo g r n at s 0 w
   entries-none w = record { number = λ i b. absurd (let z : ⊥ = omega arith in z); entry = λ i b. absurd (let z : ⊥ = omega arith in z) }
 
-  module _ (k : ℕ) (w : List Float) (x : ℕ) (l : at + 1 + k < length w) where
-    abbrev more : List Float
-    more = set w (at + 1 + k) (ofBits binary64 x)
-
-    -- what holds of the entries before and of the new one holds of all
-    with-last : (P : ℕ → Float → Type 0) → ((i : ℕ) → i < k → P i (getD w (at + 1 + i) nan)) → P k (ofBits binary64 x) → (i : ℕ) → i < k + 1 → P i (getD more (at + 1 + i) nan)
-    with-last P h p i d = by-cases (ltb i k)
-        (λ t. subst (P i) (sym (getD-set-other w (at + 1 + k) (at + 1 + i) (ofBits binary64 x) nan (omega (arith, ltb-true i k t)))) (h i (ltb-true i k t)))
-        (λ t.
-        let z : k ≡ i = omega (arith, ltb-false i k t) in
-        subst (λ (q : ℕ). P q (getD more (at + 1 + q) nan)) z (subst (P k) (sym (getD-set-same w (at + 1 + k) (ofBits binary64 x) nan l)) p))
-
-    pub entries-more : x < 2 ^ 32 → Entry g r s (directionAt n k) x → EntriesTo g r n at s k w → EntriesTo g r n at s (k + 1) more
-    entries-more few E H = record {
-      number = with-last (λ (i : ℕ) (v : Float). T (not (isNan v))) (H .number) (bits-number x (omega arith));
-      entry = with-last (λ (i : ℕ) (v : Float). Entry g r s (directionAt n i) (toBits binary64 v)) (H .entry) (subst (Entry g r s (directionAt n k)) (sym (bits-back x (omega arith))) E);
-    }
+  entries-more : (k : ℕ) (w : List Float) (x : ℕ) → at + 1 + k < length w → x < 2 ^ 32 → Entry g r s (directionAt n k) x → EntriesTo g r n at s k w → EntriesTo g r n at s (k + 1) (set w (at + 1 + k) (ofBits binary64 x))
+  entries-more k w x l few E H = record {
+    number = with-last (at + 1) k w (ofBits binary64 x) l (λ (i : ℕ) (v : Float). T (not (isNan v))) (H .number) (bits-number x (omega arith));
+    entry = with-last (at + 1) k w (ofBits binary64 x) l (λ (i : ℕ) (v : Float). Entry g r s (directionAt n i) (toBits binary64 v)) (H .entry)
+        (subst (Entry g r s (directionAt n k)) (sym (bits-back x (omega arith))) E);
+  }
 
   -- what is written elsewhere does not matter
   entries-same : (k : ℕ) (w v : List Float) → ((i : ℕ) → i < k → getD v (at + 1 + i) nan ≡ getD w (at + 1 + i) nan) → EntriesTo g r n at s k w → EntriesTo g r n at s k v
@@ -151,6 +141,12 @@ module _ (g : Grid) (r : Float) (n at s : ℕ) where
 
   pub entries-end : (k : ℕ) (w : List Float) → n ≤ k → EntriesTo g r n at s k w → EntriesTo g r n at s n w
   entries-end k w h E = record { number = λ i b. E .number i (omega arith); entry = λ i b. E .entry i (omega arith) }
+
+-- entries are numbers
+pub entries-numbers : (g : Grid) (r : Float) (n at s : ℕ) (w : List Float) → EntriesTo g r n at s n w → Numbers (at + 1) (at + 1 + n) w
+entries-numbers g r n at s w E = record {
+  at = λ k l h. subst (λ (i : ℕ). T (not (isNan (getD w i nan)))) (let z : at + 1 + (k - (at + 1)) ≡ k = omega arith in z) (E .number (k - (at + 1)) (omega arith));
+}
 
 pub rim-apart : (n a e : ℕ) (w v : List Float) → 2 * n ≤ a → Apart a e w v → Rim n w → Rim n v
 rim-apart n a e w v h A R = record {
@@ -172,19 +168,26 @@ entries-next g r n at s k w₀ w x l h b R A E H =
 abbrev nought : Float
 nought = ofBits binary64 0
 
+-- the entries, then the blocks behind them
+pub then-blocks : (g : Grid) (r : Float) (n at s : ℕ) (w v u : List Float) → n ≤ 2048 → Apart (at + 1) (at + 2049) w v × EntriesTo g r n at s n v → Apart (at + 2049) (at + 2304) v u → Apart (at + 1) (at + 2304) w u × EntriesTo g r n at s n u
+then-blocks g r n at s w v u h E A = (
+  apart-more (at + 1) (at + 2304) w v u (apart-wider (at + 1) (at + 2049) (at + 1) (at + 2304) w v (omega arith) (omega arith) (E .0)) (apart-wider (at + 2049) (at + 2304) (at + 1) (at + 2304) v u (omega arith) (omega arith) A),
+  entries-same g r n at s n v u (λ i b. A .before (at + 1 + i) (omega arith)) (E .1),
+)
+
 module _ (g : Grid) (r : Float) (n at : ℕ) (w : List Float) where
   -- a slice that is too short for tables
-  pub boxed-short : length w < 16900 → Apart at (at + 2049) w w × Boxed g r n at w
-  boxed-short h = (apart-none at (at + 2049) w, record { told = λ l. absurd (let z : ⊥ = omega arith in z) })
+  pub boxed-short : length w < 17152 → Apart at (at + 2304) w w × Boxed g r n at w
+  boxed-short h = (apart-none at (at + 2304) w, record { told = λ l. absurd (let z : ⊥ = omega arith in z) })
 
   module _ (l : at < length w) where
-    pub head-apart : Apart at (at + 2049) w (set w at nought)
-    head-apart = apart-set at (at + 2049) w w at nought (omega arith) (omega arith) (apart-none at (at + 2049) w)
+    pub head-apart : Apart at (at + 2304) w (set w at nought)
+    head-apart = apart-set at (at + 2304) w w at nought (omega arith) (omega arith) (apart-none at (at + 2304) w)
 
     head-none : getD (set w at nought) at nan ≡ nought
     head-none = getD-set-same w at nought nan l
 
-    pub boxed-no : Apart at (at + 2049) w (set w at nought) × Boxed g r n at (set w at nought)
+    pub boxed-no : Apart at (at + 2304) w (set w at nought) × Boxed g r n at (set w at nought)
     boxed-no = (
       head-apart,
       record {
@@ -192,11 +195,12 @@ module _ (g : Grid) (r : Float) (n at : ℕ) (w : List Float) where
           number = subst (λ (z : Float). T (not (isNan z))) (sym head-none) (bits-number 0 (omega arith));
           firsts = λ k. absurd (let e = ap (toBits binary64) head-none ∙ bits-back 0 (omega arith) in let z : ⊥ = omega arith in z);
           entries = λ s k. absurd (let e = ap (toBits binary64) head-none ∙ bits-back 0 (omega arith) in let z : ⊥ = omega arith in z);
+          blocks = λ k. absurd (let e = ap (toBits binary64) head-none ∙ bits-back 0 (omega arith) in let z : ⊥ = omega arith in z);
         };
       },
     )
 
-    module _ (S : Sides g) (far : 12289 ≤ at) (few : n ≤ 2048) (long : 16900 ≤ length w) (F : Started g w) where
+    module _ (S : Sides g) (far : 12289 ≤ at) (few : n ≤ 2048) (long : 17152 ≤ length w) (F : Started g w) where
       -- the word before the first numbers is as it was
       flag-same : getD (set w at nought) 8192 nan ≡ getD w 8192 nan
       flag-same = getD-set-other w at 8192 nought nan (omega arith)
@@ -204,17 +208,17 @@ module _ (g : Grid) (r : Float) (n at : ℕ) (w : List Float) where
       pub flag-number : T (not (isNan (getD (set w at nought) 8192 nan)))
       flag-number = subst (λ (z : Float). T (not (isNan z))) (sym flag-same) (F .told long .number)
 
-      module _ (s : ℕ) (small : s ≤ 2 ^ 32) (v : List Float) (A : Apart (at + 1) (at + 2049) (set w at nought) v) (E : EntriesTo g r n at s n v) (on : word (set w at nought) 8192 ≡ 0 → ⊥) where
+      module _ (s : ℕ) (small : s ≤ 2 ^ 32) (v : List Float) (A : Apart (at + 1) (at + 2304) (set w at nought) v) (E : EntriesTo g r n at s n v) (B : BlocksTo n at 255 v) (on : word (set w at nought) 8192 ≡ 0 → ⊥) where
         abbrev done : List Float
         done = set v at (ofBits binary64 (s + 1))
 
         boxed-long : length v ≡ length w
         boxed-long = A .long ∙ length-set w at nought
 
-        apart : Apart at (at + 2049) w done
+        apart : Apart at (at + 2304) w done
         apart =
-            apart-set at (at + 2049) w v at (ofBits binary64 (s + 1)) (omega arith) (omega arith)
-            (apart-more at (at + 2049) w (set w at nought) v head-apart (apart-wider (at + 1) (at + 2049) at (at + 2049) (set w at nought) v (omega arith) (omega arith) A))
+            apart-set at (at + 2304) w v at (ofBits binary64 (s + 1)) (omega arith) (omega arith)
+            (apart-more at (at + 2304) w (set w at nought) v head-apart (apart-wider (at + 1) (at + 2304) at (at + 2304) (set w at nought) v (omega arith) (omega arith) A))
 
         head : getD done at nan ≡ ofBits binary64 (s + 1)
         head = getD-set-same v at (ofBits binary64 (s + 1)) nan (omega (arith, boxed-long))
@@ -225,25 +229,26 @@ module _ (g : Grid) (r : Float) (n at : ℕ) (w : List Float) where
         flag : 0 < word w 8192
         flag = let e : word (set w at nought) 8192 ≡ word w 8192 = ap (toBits binary64) flag-same in by-cases (eqb (word w 8192) 0) (λ t. absurd (on (e ∙ eqb-true (word w 8192) 0 t))) (λ t. let d = eqb-false (word w 8192) 0 t in omega arith)
 
-        pub boxed-yes : Apart at (at + 2049) w done × Boxed g r n at done
+        pub boxed-yes : Apart at (at + 2304) w done × Boxed g r n at done
         boxed-yes = (
           apart,
           record {
             told = λ h. record {
               number = subst (λ (z : Float). T (not (isNan z))) (sym head) (bits-number (s + 1) (omega arith));
               firsts = λ k. (
-                firsts-after (g .cell) (g .nx) at (at + 2049) w done (S .columns) far apart (F .told long .columns flag),
-                firsts-after (g .cell) (g .ny) at (at + 2049) w done (S .rows) far apart (F .told long .rows flag),
+                firsts-after (g .cell) (g .nx) at (at + 2304) w done (S .columns) far apart (F .told long .columns flag),
+                firsts-after (g .cell) (g .ny) at (at + 2304) w done (S .rows) far apart (F .told long .rows flag),
               );
               entries = λ t k.
                   let e : s ≡ t = omega (arith, head-word) in
                   subst (λ (z : ℕ). EntriesTo g r n at z n done) e (entries-same g r n at s n v done (λ i b. getD-set-other v at (at + 1 + i) (ofBits binary64 (s + 1)) nan (omega arith)) E);
+              blocks = λ k. blocks-same n at few 255 v done (omega arith) (λ i b d. getD-set-other v at i (ofBits binary64 (s + 1)) nan (omega arith)) B;
             };
           },
         )
 
 -- what is written elsewhere does not matter
-module _ (g : Grid) (S : Sides g) (r : Float) (n at : ℕ) (few : n ≤ 2048) (w v : List Float) (long : length v ≡ length w) (firsts : (k : ℕ) → 8193 ≤ k → k < 12289 → getD v k nan ≡ getD w k nan) (table : (k : ℕ) → at ≤ k → k < at + 2049 → getD v k nan ≡ getD w k nan) where
+module _ (g : Grid) (S : Sides g) (r : Float) (n at : ℕ) (few : n ≤ 2048) (w v : List Float) (long : length v ≡ length w) (firsts : (k : ℕ) → 8193 ≤ k → k < 12289 → getD v k nan ≡ getD w k nan) (table : (k : ℕ) → at ≤ k → k < at + 2304 → getD v k nan ≡ getD w k nan) where
   boxed-same : Boxed g r n at w → Boxed g r n at v
   boxed-same B = record {
     told = λ l.
@@ -256,11 +261,12 @@ module _ (g : Grid) (S : Sides g) (r : Float) (n at : ℕ) (few : n ≤ 2048) (w
               let f = t .firsts (omega arith) in
               (firsts-same (g .cell) (g .nx) w v (S .columns) firsts (f .0), firsts-same (g .cell) (g .ny) w v (S .rows) firsts (f .1));
           entries = λ s k. entries-same g r n at s n w v (λ i b. table (at + 1 + i) (omega arith) (omega arith)) (t .entries s (same ∙ k));
+          blocks = λ k. blocks-same n at few 255 w v (omega arith) (λ i b d. table i (omega arith) d) (t .blocks (omega arith));
         };
   }
 
 module _ (g : Grid) (S : Sides g) (r : Float) (n at a e : ℕ) (few : n ≤ 2048) (w v : List Float) (A : Apart a e w v) where
-  boxed-after : 12289 ≤ a → at + 2049 ≤ a → Boxed g r n at w → Boxed g r n at v
+  boxed-after : 12289 ≤ a → at + 2304 ≤ a → Boxed g r n at w → Boxed g r n at v
   boxed-after h k = boxed-same g S r n at few w v (A .long) (λ i b d. A .before i (omega arith)) (λ i b d. A .before i (omega arith))
 
   pub boxed-before : e ≤ 8193 → e ≤ at → Boxed g r n at w → Boxed g r n at v
@@ -274,6 +280,10 @@ module _ (g : Grid) (S : Sides g) (r : Float) (n at a e : ℕ) (few : n ≤ 2048
     rim = rim-apart n a e w v (omega arith) A (R .rim);
     number = λ k b. subst (λ (z : Float). T (not (isNan z))) (sym (A .before (4096 + k) (omega arith))) (R .number k b);
     lies = λ k b. subst (λ (z : Float). Offsets.Entry g r (reachOf g r) (directionAt n k) (toBits binary64 z)) (sym (A .before (4096 + k) (omega arith))) (R .lies k b);
+    all = λ b.
+        let same : (k : ℕ) → k < 2048 → Offsets.entryAt w k ≡ Offsets.entryAt v k = λ k l. ap (toBits binary64) (sym (A .before (4096 + k) (omega arith))) in
+        let t = R .all (omega (arith, same 0 (omega arith))) in
+        record { at = λ i d. let f = R .few in omega (arith, t .at i d, same i (omega arith)) };
   }
 
 pub reach-some : (g : Grid) (r : Float) (s : ℕ) → s ≡ reachOf g r → 0 < s
@@ -282,16 +292,16 @@ reach-some g r s e = omega arith
 
 -- ---- two tables
 
-module _ (n : ℕ) (few : n ≤ 2048) (w u v : List Float) (A : Apart 8192 12289 w u) (B : Apart 12544 14593 u v) where
+module _ (n : ℕ) (few : n ≤ 2048) (w u v : List Float) (A : Apart 8192 12289 w u) (B : Apart 12544 14848 u v) where
   pub second-rim : Rim n w → Rim n v
-  second-rim R = rim-apart n 12544 14593 u v (omega arith) B (rim-apart n 8192 12289 w u (omega arith) A R)
+  second-rim R = rim-apart n 12544 14848 u v (omega arith) B (rim-apart n 8192 12289 w u (omega arith) A R)
 
-  pub all-boxed : (g : Grid) → Sides g → (r t : Float) (z : List Float) → Boxed g r n 12544 v → Apart 14848 16897 v z → Boxed g t n 14848 z
-      → Apart 8192 16897 w z × Boxed g r n 12544 z × Boxed g t n 14848 z
+  pub all-boxed : (g : Grid) → Sides g → (r t : Float) (z : List Float) → Boxed g r n 12544 v → Apart 14848 17152 v z → Boxed g t n 14848 z
+      → Apart 8192 17152 w z × Boxed g r n 12544 z × Boxed g t n 14848 z
   all-boxed g S r t z X C Y = (
-    apart-more 8192 16897 w v z
-        (apart-more 8192 16897 w u v (apart-wider 8192 12289 8192 16897 w u (omega arith) (omega arith) A) (apart-wider 12544 14593 8192 16897 u v (omega arith) (omega arith) B))
-        (apart-wider 14848 16897 8192 16897 v z (omega arith) (omega arith) C),
-    boxed-after g S r n 12544 14848 16897 few v z C (omega arith) (omega arith) X,
+    apart-more 8192 17152 w v z
+        (apart-more 8192 17152 w u v (apart-wider 8192 12289 8192 17152 w u (omega arith) (omega arith) A) (apart-wider 12544 14848 8192 17152 u v (omega arith) (omega arith) B))
+        (apart-wider 14848 17152 8192 17152 v z (omega arith) (omega arith) C),
+    boxed-after g S r n 12544 14848 17152 few v z C (omega arith) (omega arith) X,
     Y,
   )

@@ -85,6 +85,14 @@ module _ (a e : ℕ) where
   pub apart-wider : (b f : ℕ) (w v : List Float) → b ≤ a → e ≤ f → Apart a e w v → Apart b f w v
   apart-wider b f w v h k A = record { long = A .long; before = λ i l. A .before i (omega arith); after = λ i l. A .after i (omega arith) }
 
+-- what holds of the k numbers from place p on and of the one that is set behind them holds of all
+pub with-last : (p k : ℕ) (w : List Float) (x : Float) → p + k < length w → (P : ℕ → Float → Type 0) → ((i : ℕ) → i < k → P i (getD w (p + i) nan)) → P k x → (i : ℕ) → i < k + 1 → P i (getD (set w (p + k) x) (p + i) nan)
+with-last p k w x l P h q i d = by-cases (ltb i k)
+    (λ t. subst (P i) (sym (getD-set-other w (p + k) (p + i) x nan (omega (arith, ltb-true i k t)))) (h i (ltb-true i k t)))
+    (λ t.
+    let z : k ≡ i = omega (arith, ltb-false i k t) in
+    subst (λ (j : ℕ). P j (getD (set w (p + k) x) (p + j) nan)) z (subst (P k) (sym (getD-set-same w (p + k) x nan l)) q))
+
 -- ---- the first numbers of all cells
 
 module _ (cell : Float) where
@@ -92,13 +100,7 @@ module _ (cell : Float) where
   firsts-none w = record { at = λ m a b. absurd (let z : ⊥ = omega arith in z) }
 
   pub firsts-more : (n : ℕ) (w : List Float) (x : Float) → 8193 + n < length w → First cell n x → FirstsTo cell n w → FirstsTo cell (n + 1) (set w (8193 + n) x)
-  firsts-more n w x l F H = record {
-    at = λ m a b. by-cases (ltb m n)
-        (λ t. subst (First cell m) (sym (getD-set-other w (8193 + n) (8193 + m) x nan (omega (arith, ltb-true m n t)))) (H .at m a (ltb-true m n t)))
-        (λ t.
-        let z : n ≡ m = omega (arith, ltb-false m n t) in
-        subst (λ (k : ℕ). First cell k (getD (set w (8193 + n) x) (8193 + k) nan)) z (subst (First cell n) (sym (getD-set-same w (8193 + n) x nan l)) F));
-  }
+  firsts-more n w x l F H = record { at = λ m a b. with-last 8193 n w x l (λ (i : ℕ) (v : Float). 0 < i → First cell i v) (λ i h o. H .at i o h) (λ o. F) m b a }
 
   pub firsts-end : (n k : ℕ) (w : List Float) → n ≤ k → FirstsTo cell k w → FirstsTo cell n w
   firsts-end n k w h H = record { at = λ m a b. H .at m a (omega arith) }
@@ -120,10 +122,10 @@ nought = ofBits binary64 0
 
 module _ (g : Grid) (w : List Float) where
   -- a slice that is too short for tables
-  pub started-short : length w < 16900 → Apart 8192 12289 w w × Started g w
+  pub started-short : length w < 17152 → Apart 8192 12289 w w × Started g w
   started-short h = (apart-none 8192 12289 w, record { told = λ l. absurd (let z : ⊥ = omega arith in z) })
 
-  module _ (v : List Float) (l : 16900 ≤ length w) (A : Apart 8193 12289 (set w 8192 nought) v) where
+  module _ (v : List Float) (l : 17152 ≤ length w) (A : Apart 8193 12289 (set w 8192 nought) v) where
     pub started-long : length v ≡ length w
     started-long = A .long ∙ length-set w 8192 nought
 

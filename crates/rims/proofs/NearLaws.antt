@@ -1,6 +1,6 @@
 -- A sample judged by the table is judged as by its definition. Assumes nothing.
 use mathlib.Core.Path.{_≡_, refl, sym, _∙_, ap, subst}
-use mathlib.Core.Bool.{true, false, cond}
+use mathlib.Core.Bool.{Bool, true, false, cond}
 use mathlib.Core.List.{List}
 use Prim.Native.Nat.{ℕ, _+_, _-_, _*_, _/_, _%_, _^_, _≤_, _<_, zero-le}
 use native.Mathlib.Omega.{arith}
@@ -16,13 +16,14 @@ use Rattle.numbers.specs.Cast.{float}
 use Rattle.geom.specs.Vec.{f0, sum, scaled}
 use Rattle.geom.specs.declared.vec2.Vec2.{Vec2}
 use Rattle.raster.specs.Grid.{Sides, cellOf, columnAt, rowAt, stockAt}
-use Rattle.raster.specs.Contact.{directionAt, rimAt, Rim}
+use Rattle.raster.specs.Contact.{directionAt, rimAt}
 use Rattle.raster.specs.declared.grid.Grid.{Grid}
 use Rattle.raster.specs.declared.grid.Found.the-variants.{At}
 use Rattle.raster.proofs.GridLaws.{found-at, number-below, stock-some}
 use Rattle.rims.specs.Offsets.{Roomy}
 use Rattle.spans.specs.Spans.{word}
-use Rattle.rims.specs.Boxes.{First, FirstsTo, Two, Near, EntriesTo}
+use Rattle.rims.specs.Boxes.{First, Two, Near, Inside, blockAt, Around, BlockOn}
+use Rattle.rims.specs.Tiles.{tileAt, Tiled, BareBlock}
 
 -- ---- along one axis
 
@@ -56,22 +57,30 @@ module _ (cell q x : Float) (n k : ℕ) (N : n ≤ 4096) (Q : T (fits binary64 q
   two-on : cond (le x q) (k + 1) k < n
   two-on = let on = t .on in by-test (λ (z : ℕ). z < n) (le x q) (k + 1) k (λ h. omega arith) (λ h. omega arith)
 
+next-or-not : (b : Bool) (k : ℕ) → (k ≤ cond b (k + 1) k) × (cond b (k + 1) k ≤ k + 1)
+next-or-not true k = (omega arith, omega arith)
+next-or-not false k = (omega arith, omega arith)
+
 -- ---- the cell of a sample
 
-module _ (g : Grid) (S : Sides g) (p : Vec2) (r : Float) (w : List Float) (n at s i j k e : ℕ) (M : Rim n w) (K : k < n) (X : FirstsTo (g .cell) (g .nx) w) (Y : FirstsTo (g .cell) (g .ny) w) (E : EntriesTo g r n at s n w) (is : cellOf g p ≡ At (i + s) (j + s)) (R : Roomy g s (i + s) (j + s)) (here : word w (at + 1 + k) ≡ e + 1) where
+module _ (g : Grid) (S : Sides g) (p : Vec2) (r : Float) (w : List Float) (n at i j : ℕ) (A : Around g p r w n at i j) (k e : ℕ) (K : k < n) (here : word w (at + 1 + k) ≡ e + 1) where
   abbrev point : Vec2
   point = rimAt p r (directionAt n k)
 
-  near : Near g r s (directionAt n k) (e % 4096) (e / 4096)
-  near = E .entry k K .near e here
+  near : Near g r (A .room) (directionAt n k) (e % 4096) (e / 4096)
+  near = A .entries .entry k K .near e here
 
   across : Two (g .nx) (i + e % 4096) (columnAt g point)
-  across = subst (λ (z : ℕ). Two (g .nx) (z + e % 4096) (columnAt g point)) (let z : i + s - s ≡ i = omega arith in z) (near .column p (i + s) (j + s) is R)
+  across = subst (λ (z : ℕ). Two (g .nx) (z + e % 4096) (columnAt g point)) (let z : i + A .room - A .room ≡ i = omega arith in z) (near .column p (i + A .room) (j + A .room) (A .cell) (A .roomy))
 
   along : Two (g .ny) (j + e / 4096) (rowAt g point)
-  along = subst (λ (z : ℕ). Two (g .ny) (z + e / 4096) (rowAt g point)) (let z : j + s - s ≡ j = omega arith in z) (near .row p (i + s) (j + s) is R)
+  along = subst (λ (z : ℕ). Two (g .ny) (z + e / 4096) (rowAt g point)) (let z : j + A .room - A .room ≡ j = omega arith in z) (near .row p (i + A .room) (j + A .room) (A .cell) (A .roomy))
 
-  -- both rows are on the grid
+  -- both columns are on the grid
+  columns-on : i + e % 4096 + 1 < g .nx
+  columns-on = across .on
+
+  -- both rows are
   pub rows-on : j + e / 4096 + 1 < g .ny
   rows-on = along .on
 
@@ -83,11 +92,11 @@ module _ (g : Grid) (S : Sides g) (p : Vec2) (r : Float) (w : List Float) (n at 
 
   same-x : qx ≡ sub binary64 (point .x) (g .origin .x)
   unfolding rimAt sum scaled
-  same-x = ap (λ (z : Float). sub binary64 (add binary64 (p .x) (mul binary64 z r)) (g .origin .x)) (M .x k K)
+  same-x = ap (λ (z : Float). sub binary64 (add binary64 (p .x) (mul binary64 z r)) (g .origin .x)) (A .rim .x k K)
 
   same-y : qy ≡ sub binary64 (point .y) (g .origin .y)
   unfolding rimAt sum scaled
-  same-y = ap (λ (z : Float). sub binary64 (add binary64 (p .y) (mul binary64 z r)) (g .origin .y)) (M .y k K)
+  same-y = ap (λ (z : Float). sub binary64 (add binary64 (p .y) (mul binary64 z r)) (g .origin .y)) (A .rim .y k K)
 
   two-x : Two (g .nx) (i + e % 4096) (div binary64 qx (g .cell))
   two-x = subst (λ (z : Float). Two (g .nx) (i + e % 4096) (div binary64 z (g .cell))) (sym same-x) across
@@ -98,12 +107,12 @@ module _ (g : Grid) (S : Sides g) (p : Vec2) (r : Float) (w : List Float) (n at 
   first-x : First (g .cell) (i + e % 4096 + 1) (getD w (8194 + (i + e % 4096)) nan)
   first-x =
       let o = across .on in
-      subst (λ (z : ℕ). First (g .cell) (i + e % 4096 + 1) (getD w z nan)) (let z : 8193 + (i + e % 4096 + 1) ≡ 8194 + (i + e % 4096) = omega arith in z) (X .at (i + e % 4096 + 1) (omega arith) o)
+      subst (λ (z : ℕ). First (g .cell) (i + e % 4096 + 1) (getD w z nan)) (let z : 8193 + (i + e % 4096 + 1) ≡ 8194 + (i + e % 4096) = omega arith in z) (A .columns .at (i + e % 4096 + 1) (omega arith) o)
 
   first-y : First (g .cell) (j + e / 4096 + 1) (getD w (8194 + (j + e / 4096)) nan)
   first-y =
       let o = along .on in
-      subst (λ (z : ℕ). First (g .cell) (j + e / 4096 + 1) (getD w z nan)) (let z : 8193 + (j + e / 4096 + 1) ≡ 8194 + (j + e / 4096) = omega arith in z) (Y .at (j + e / 4096 + 1) (omega arith) o)
+      subst (λ (z : ℕ). First (g .cell) (j + e / 4096 + 1) (getD w z nan)) (let z : 8193 + (j + e / 4096 + 1) ≡ 8194 + (j + e / 4096) = omega arith in z) (A .rows .at (j + e / 4096 + 1) (omega arith) o)
 
   module _ (x y : ℕ) (cx : x ≡ cond (le (getD w (8194 + (i + e % 4096)) nan) qx) (i + e % 4096 + 1) (i + e % 4096)) (cy : y ≡ cond (le (getD w (8194 + (j + e / 4096)) nan) qy) (j + e / 4096 + 1) (j + e / 4096)) where
     column-on : x < g .nx
@@ -127,6 +136,44 @@ module _ (g : Grid) (S : Sides g) (p : Vec2) (r : Float) (w : List Float) (n at 
 
     pub cell-stock : (m : List ℕ) → eqb (getD m (y * g .nx + x) 0) 1 ≡ stockAt g m point
     cell-stock m = stock-some g m point (At x y) x y (y * g .nx + x) cell-is refl refl
+
+  -- where a tile tells that no stock is near, the sample is not over stock
+  near-bare : (m tiles : List ℕ) → Tiled g m tiles → (u v : ℕ) → u ≤ i + e % 4096 → i + e % 4096 ≤ u + 7 → v ≤ j + e / 4096 → j + e / 4096 ≤ v + 7 → getD tiles (tileAt g u v) 0 ≡ 0 → stockAt g m point ≡ false
+  near-bare m tiles B u v a b c d o =
+      let f = le (getD w (8194 + (i + e % 4096)) nan) qx in
+      let h = le (getD w (8194 + (j + e / 4096)) nan) qy in
+      let x = cond f (i + e % 4096 + 1) (i + e % 4096) in
+      let y = cond h (j + e / 4096 + 1) (j + e / 4096) in
+      let one = next-or-not f (i + e % 4096) in
+      let two = next-or-not h (j + e / 4096) in
+      sym (cell-stock x y refl refl m) ∙ B .bare u v x y (omega (arith, one .0)) (omega (arith, one .1)) (column-on x y refl refl) (omega (arith, two .0)) (omega (arith, two .1)) (row-on x y refl refl) o
+
+-- ---- a block
+
+module _ (g : Grid) (S : Sides g) (p : Vec2) (r : Float) (w : List Float) (n at i j : ℕ) (A : Around g p r w n at i j) (b : ℕ) where
+  -- what its word tells of its sample k
+  block-at : b < 255 → 0 < blockAt w at b → (k : ℕ) → 8 * b ≤ k → k < 8 * b + 8 → k < n
+      → Inside ((blockAt w at b - 1) % 4096) ((blockAt w at b - 1) % 4096 + 7) ((blockAt w at b - 1) / 4096) ((blockAt w at b - 1) / 4096 + 7) (word w (at + 1 + k))
+  block-at h o k l u d = A .blocks .block b h .inside (blockAt w at b - 1) (omega arith) (at + 1 + k) (omega arith) (omega arith)
+
+  pub block-on : 8 * b < n → BlockOn g w at i j b
+  block-on d = record {
+    number = λ h. A .blocks .number b h;
+    column = λ h o.
+        let t = block-at h o (8 * b) (omega arith) (omega arith) d in
+        let z = columns-on g S p r w n at i j A (8 * b) (word w (at + 1 + 8 * b) - 1) d (omega (arith, t .some)) in
+        omega (arith, t .left);
+    row = λ h o.
+        let t = block-at h o (8 * b) (omega arith) (omega arith) d in
+        let z = rows-on g S p r w n at i j A (8 * b) (word w (at + 1 + 8 * b) - 1) d (omega (arith, t .some)) in
+        omega (arith, t .below);
+  }
+
+  -- none of its samples is over stock
+  pub block-bare : (m tiles : List ℕ) → Tiled g m tiles → BareBlock g tiles w at i j b → (k : ℕ) → 8 * b ≤ k → k < 8 * b + 8 → k < n → stockAt g m (rimAt p r (directionAt n k)) ≡ false
+  block-bare m tiles B C k l u d =
+      let t = block-at (C .one) (C .some) k l u d in
+      near-bare g S p r w n at i j A k (word w (at + 1 + k) - 1) d (omega (arith, t .some)) m tiles B _ _ (omega (arith, t .left)) (omega (arith, t .right)) (omega (arith, t .below)) (omega (arith, t .above)) (C .bare)
 
 -- a cell with room, counted from the cell s columns and rows before it
 pub shifted : (g : Grid) (p : Vec2) (s i j : ℕ) → cellOf g p ≡ At i j → Roomy g s i j → (cellOf g p ≡ At (i - s + s) (j - s + s)) × Roomy g s (i - s + s) (j - s + s)

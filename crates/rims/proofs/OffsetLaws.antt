@@ -9,7 +9,7 @@ use lib.ListN.{length, getD, set, length-set}
 use lib.Seq.{getD-set-same, getD-set-other}
 use lib.Dec.{T, eqb, ltb}
 use lib.Ieee.{Float, nan, binary64, isNan, toUnsigned, ofBits, toBits, add, sub, div, le}
-use borrow.Author.Tests.{ltb-true, ltb-false}
+use borrow.Author.Tests.{ltb-true, ltb-false, eqb-true, eqb-false}
 use Rattle.loops.proofs.Cases.{by-cases, both}
 use Rattle.numbers.proofs.BoundLaws.{bits-number, bits-back}
 use Rattle.geom.specs.Vec.{f0, v2, sum, scaled}
@@ -20,7 +20,7 @@ use Rattle.raster.specs.declared.grid.Grid.{Grid}
 use Rattle.raster.specs.declared.grid.Found.the-variants.{At}
 use Rattle.raster.proofs.ContactLaws.{vec-eq}
 use Rattle.raster.proofs.GridLaws.{low-index, found-at, on-grid-at, number-below, stock-some, few-cells}
-use Rattle.rims.specs.Offsets.{middleOf, placeOf, FixedAt, Fixed, reachOf, Roomy, Lies, Entry, entryAt, Rims}
+use Rattle.rims.specs.Offsets.{middleOf, placeOf, FixedAt, Fixed, reachOf, Roomy, Lies, Entry, entryAt, AllTold, Entered, Rims}
 
 -- ---- along one axis
 
@@ -198,5 +198,49 @@ module _ (g : Grid) (r : Float) (n l : ℕ) (few : n ≤ 2048) (room : 6144 ≤ 
       (subst (λ (z : ℕ). Entry g r z (v2 (getD w (2 * k) nan) (getD w (2 * k + 1) nan)) x) e (E .1)))
       B
 
-  pub begun-end : (k : ℕ) (w : List Float) → n ≤ k → Begun g r n l k w → Rims g r n w
+  pub begun-end : (k : ℕ) (w : List Float) → n ≤ k → Begun g r n l k w → Entered g r n w
   begun-end k w h B = record { long = omega (arith, B .long); few = few; rim = B .rim; number = λ i b. B .number i (omega arith); lies = λ i b. B .lies i (omega arith) }
+
+-- ---- whether it serves
+
+pub told-none : (w : List Float) → AllTold 0 w
+told-none w = record { at = λ i b. absurd (let z : ⊥ = omega arith in z) }
+
+pub told-more : (k : ℕ) (w : List Float) → AllTold k w → (entryAt w k ≡ 0 → ⊥) → AllTold (k + 1) w
+told-more k w h e = record {
+  at = λ i b. by-cases (ltb i k)
+      (λ t. h .at i (ltb-true i k t))
+      (λ t. let z : k ≡ i = omega (arith, ltb-false i k t) in subst (λ (q : ℕ). 0 < entryAt w q) z (by-cases (eqb (entryAt w k) 0) (λ y. absurd (e (eqb-true _ _ y))) (λ y. above-zero (eqb-false _ _ y))));
+}
+  where
+    above-zero : {x : ℕ} → (x ≡ 0 → ⊥) → 0 < x
+    above-zero {x} f = by-cases (ltb 0 x) (ltb-true 0 x) (λ y. absurd (f (let z : x ≡ 0 = omega (arith, ltb-false 0 x y) in z)))
+
+module _ (g : Grid) (r : Float) (n : ℕ) (w : List Float) (E : Entered g r n w) where
+  pub rims-told : AllTold n w → Rims g r n w
+  rims-told A = record { long = E .long; few = E .few; rim = E .rim; number = E .number; lies = E .lies; all = λ _. A }
+
+  -- the first sample is told to have no cell
+  pub rims-off : Rims g r n (set w 4096 (ofBits binary64 0))
+  rims-off =
+      let v = set w 4096 (ofBits binary64 0) in
+      let l : length v ≡ length w = length-set w 4096 (ofBits binary64 0) in
+      let first : getD v 4096 nan ≡ ofBits binary64 0 = getD-set-same w 4096 (ofBits binary64 0) nan (omega (arith, E .long)) in
+      let other : (k : ℕ) → (k ≡ 4096 → ⊥) → getD v k nan ≡ getD w k nan = λ k d. getD-set-other w 4096 k (ofBits binary64 0) nan d in
+      let zero : entryAt v 0 ≡ 0 = ap (toBits binary64) first ∙ bits-back 0 (omega arith) in
+      record {
+        long = omega (arith, E .long);
+        few = E .few;
+        rim = record {
+          long = omega (arith, E .rim .long);
+          x = λ i h. other (2 * i) (λ e. let z = E .few in omega arith) ∙ E .rim .x i h;
+          y = λ i h. other (2 * i + 1) (λ e. let z = E .few in omega arith) ∙ E .rim .y i h;
+        };
+        number = λ k b. by-cases (eqb k 0)
+            (λ t. subst (λ (q : ℕ). T (not (isNan (getD v (4096 + q) nan)))) (sym (eqb-true k 0 t)) (subst (λ (q : Float). T (not (isNan q))) (sym first) (bits-number 0 (omega arith))))
+            (λ t. subst (λ (q : Float). T (not (isNan q))) (sym (other (4096 + k) (λ e. eqb-false k 0 t (omega arith)))) (E .number k b));
+        lies = λ k b. by-cases (eqb k 0)
+            (λ t e x. absurd (let z : ⊥ = omega (arith, ap (entryAt v) (eqb-true k 0 t)) in z))
+            (λ t. subst (λ (q : Float). Entry g r (reachOf g r) (directionAt n k) (toBits binary64 q)) (sym (other (4096 + k) (λ e. eqb-false k 0 t (omega arith)))) (E .lies k b));
+        all = λ b. absurd (let z : ⊥ = omega arith in z);
+      }

@@ -65,10 +65,28 @@ Entry g r s u x = (e : ℕ) → x ≡ e + 1 → Lies g r s u e
 abbrev pub entryAt : List Float → ℕ → ℕ
 entryAt w k = word w (4096 + k)
 
+-- n words stand behind the directions
+pub record Words (n : ℕ) (w : List Float) : Type 0 where
+  pub long : 4096 + n ≤ length w
+  pub number : (k : ℕ) → k < n → T (not (isNan (getD w (4096 + k) nan)))
+
+-- each of the first k samples has a cell
+pub record AllTold (k : ℕ) (w : List Float) : Type 0 where
+  pub at : (i : ℕ) → i < k → 0 < entryAt w i
+
 -- w holds the directions of n samples, and behind them the cells that they lie in around the centre of a cell
+pub record Entered (g : Grid) (r : Float) (n : ℕ) (w : List Float) : Type 0 where
+  pub long : 6144 ≤ length w
+  pub few : n ≤ 2048
+  pub rim : Rim n w
+  pub number : (k : ℕ) → k < n → T (not (isNan (getD w (4096 + k) nan)))
+  pub lies : (k : ℕ) → k < n → Entry g r (reachOf g r) (directionAt n k) (entryAt w k)
+
+-- so it is, and where the first sample has a cell each has
 pub record Rims (g : Grid) (r : Float) (n : ℕ) (w : List Float) : Type 0 where
   pub long : 6144 ≤ length w
   pub few : n ≤ 2048
   pub rim : Rim n w
   pub number : (k : ℕ) → k < n → T (not (isNan (getD w (4096 + k) nan)))
   pub lies : (k : ℕ) → k < n → Entry g r (reachOf g r) (directionAt n k) (entryAt w k)
+  pub all : 0 < entryAt w 0 → AllTold n w

@@ -1,6 +1,7 @@
 // The table of a radius: for each sample of the rim the two columns and the two rows that hold it, counted from the
 // centre's cell. Tested at both edges of every column and row with room; all operations between a point and its column
-// keep the order, so the edges speak for all between them.
+// keep the order, so the edges speak for all between them. Behind them, for blocks of 8 samples, where their columns and
+// rows begin, if they are few.
 ghost use mathlib.Core.Path.{_≡_};
 ghost use mathlib.Core.Bool.{true};
 ghost use Prim.Native.Nat.{_+_, _-_, _≤_, _<_, _^_};
@@ -8,7 +9,7 @@ ghost use lib.ListN.{length};
 ghost use Rattle.raster.specs.Grid.{Sides};
 ghost use Rattle.raster.specs.Contact.{Rim};
 ghost use Rattle.spans.specs.Ends.{Tame};
-ghost use Rattle.rims.specs.Boxes.{Apart, Started, EdgesIn, EdgesTo, Entry, EntriesTo, Boxed};
+ghost use Rattle.rims.specs.Boxes.{Apart, Started, EdgesIn, EdgesTo, Entry, EntriesTo, Numbers, Block, BlocksTo, Boxed};
 use super::offsets::reach_of;
 use super::thresholds::fill_thresholds;
 use geom::vec2::Vec2;
@@ -19,6 +20,8 @@ use spans::edges::below;
 use spans::edges::beyond;
 use spans::edges::end_with;
 use spans::edges::is_tame;
+use spans::runs::greatest;
+use spans::runs::least;
 
 // Whether the points of cell i, moved by v, lie in cell k or the next one of n.
 fn is_near(o: f64, cell: f64, n: usize, v: f64, i: usize, k: usize) -> bool
@@ -89,15 +92,55 @@ fn fill_entries(g: Grid, r: f64, n: usize, at: usize, s: usize, w: &mut [f64])
     }
 }
 
+// What the table holds of a block whose entries are es: 0 where one is 0, or where their columns or rows are more than 9.
+fn block_of(es: &[f64]) -> u64
+    requires { ⌜ Numbers 0 (length (now es)) (now es) ⌝ }
+    ensures { λ x. ⌜ (x < 2 ^ 32) × Block (now (es .entry)) 0 (length (now (es .entry))) x ⌝ }
+{
+    let mut a = 4096;
+    let mut b = 0;
+    let mut c = 4096;
+    let mut d = 0;
+    for k in 0..es.len() {
+        let x = f64::to_bits(es[k]) as usize;
+        if x == 0 {
+            return 0;
+        }
+        let i = (x - 1) % 4096;
+        let j = (x - 1) / 4096;
+        a = least(a, i);
+        b = greatest(b, i);
+        c = least(c, j);
+        d = greatest(d, j);
+    }
+    if (b < a + 8) & (d < c + 8) {
+        return (c * 4096 + a + 1) as u64;
+    }
+    0
+}
+
+// Writes the blocks behind the entries of n samples.
+fn fill_blocks(n: usize, at: usize, w: &mut [f64])
+    requires { ⌜ (n ≤ 2048) × (at + 2304 ≤ length (now w)) ⌝ }
+    requires { ⌜ Numbers (at + 1) (at + 1 + n) (now w) ⌝ }
+    ensures { λ _. ⌜ Apart (at + 2049) (at + 2304) (now (w .entry)) (now (w .exit)) × BlocksTo n at 255 (now (w .exit)) ⌝ }
+{
+    for b in 0..255 {
+        let k = at + 1 + least(8 * b, n);
+        let e = at + 1 + least(8 * b + 8, n);
+        w[at + 2049 + b] = f64::from_bits(block_of(&w[k..e]));
+    }
+}
+
 // Works out the table of radius r.
 pub fn fill_boxes(g: Grid, r: f64, n: usize, at: usize, w: &mut [f64])
     requires { ⌜ Sides g ⌝ }
     requires { ⌜ Rim n (now w) ⌝ }
     requires { ⌜ (n ≤ 2048) × (12544 ≤ at) × (at ≤ 14848) ⌝ }
     requires { ⌜ Started g (now w) ⌝ }
-    ensures { λ _. ⌜ Apart at (at + 2049) (now (w .entry)) (now (w .exit)) × Boxed g r n at (now (w .exit)) ⌝ }
+    ensures { λ _. ⌜ Apart at (at + 2304) (now (w .entry)) (now (w .exit)) × Boxed g r n at (now (w .exit)) ⌝ }
 {
-    if w.len() < 16900 {
+    if w.len() < 17152 {
         return;
     }
     w[at] = 0.0;
@@ -105,6 +148,7 @@ pub fn fill_boxes(g: Grid, r: f64, n: usize, at: usize, w: &mut [f64])
         if is_tame(g) {
             let s = reach_of(g, r);
             fill_entries(g, r, n, at, s, w);
+            fill_blocks(n, at, w);
             w[at] = f64::from_bits((s + 1) as u64);
         }
     }
@@ -115,7 +159,7 @@ pub fn fill_all(g: Grid, r: f64, t: f64, n: usize, w: &mut [f64])
     requires { ⌜ Sides g ⌝ }
     requires { ⌜ Rim n (now w) ⌝ }
     requires { ⌜ n ≤ 2048 ⌝ }
-    ensures { λ _. ⌜ Apart 8192 16897 (now (w .entry)) (now (w .exit)) × Boxed g r n 12544 (now (w .exit)) × Boxed g t n 14848 (now (w .exit)) ⌝ }
+    ensures { λ _. ⌜ Apart 8192 17152 (now (w .entry)) (now (w .exit)) × Boxed g r n 12544 (now (w .exit)) × Boxed g t n 14848 (now (w .exit)) ⌝ }
 {
     fill_thresholds(g, w);
     fill_boxes(g, r, n, 12544, w);

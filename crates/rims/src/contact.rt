@@ -1,20 +1,22 @@
 // The hits of a rim around any point.
 ghost use mathlib.Core.Path.{_≡_};
-ghost use mathlib.Core.Bool.{cond};
-ghost use Prim.Native.Nat.{_+_, _-_, _≤_, _<_};
+ghost use mathlib.Core.Bool.{true, cond};
+ghost use Prim.Native.Nat.{_+_, _*_, _≤_, _<_, min};
 ghost use lib.ListN.{length};
 ghost use lib.Ieee.{le};
-ghost use Rattle.raster.specs.Grid.{Over, cellOf, stockAt};
-ghost use Rattle.raster.specs.Contact.{directionAt, rimAt, hitsOf, Rim};
-ghost use Rattle.raster.specs.declared.grid.Found.the-variants.{At};
-ghost use Rattle.rims.specs.Offsets.{Roomy};
-ghost use Rattle.rims.specs.Boxes.{FirstsTo, EntriesTo, Boxed};
+ghost use Rattle.loops.specs.Loop.{loop};
+ghost use Rattle.raster.specs.Grid.{Sides, Over, stockAt};
+ghost use Rattle.raster.specs.Contact.{directionAt, rimAt, hitAt, hitsOf, Rim};
+ghost use Rattle.rims.specs.Boxes.{Boxed, Around, BlockOn};
+ghost use Rattle.rims.specs.Tiles.{tilesOf, Tiled, BareBlock};
 use super::hits::is_hit;
 use super::hits::is_roomy;
+use super::tiles::tiles_of;
 use geom::vec2::Vec2;
 use raster::grid::Found;
 use raster::grid::Grid;
 use raster::grid::cell_of;
+use spans::runs::least;
 
 // Cell a, or the next one where q is not before x, its first number.
 fn next_from(a: usize, x: f64, q: f64) -> usize
@@ -24,7 +26,7 @@ fn next_from(a: usize, x: f64, q: f64) -> usize
     if q >= x { a + 1 } else { a }
 }
 
-// Sample k around c, which lies s columns after column i and s rows after row j.
+// Sample k around c.
 fn sample_hit(
     g: Grid,
     map: &[u8],
@@ -33,16 +35,13 @@ fn sample_hit(
     w: &[f64],
     n: usize,
     at: usize,
-    s: usize,
     i: usize,
     j: usize,
     k: usize,
 ) -> bool
     requires { ⌜ Over g (length (now map)) ⌝ }
-    requires { ⌜ Rim n (now w) ⌝ }
-    requires { ⌜ (k < n) × (n ≤ 2048) × (at ≤ 14848) × (16900 ≤ length (now w)) ⌝ }
-    requires { ⌜ FirstsTo (g .cell) (g .nx) (now w) × FirstsTo (g .cell) (g .ny) (now w) × EntriesTo g r n at s n (now w) ⌝ }
-    requires { ⌜ (cellOf g c ≡ At (i + s) (j + s)) × Roomy g s (i + s) (j + s) ⌝ }
+    requires { ⌜ Around g c r (now w) n at i j ⌝ }
+    requires { ⌜ k < n ⌝ }
     ensures { λ b. ⌜ b ≡ stockAt g (now (map .entry)) (rimAt c r (directionAt n k)) ⌝ }
 {
     let e = f64::to_bits(w[at + 1 + k]) as usize;
@@ -57,8 +56,8 @@ fn sample_hit(
     map[y * nx + x] == 1
 }
 
-// The hits around c.
-fn box_hits(
+// The hits of block b around c.
+fn block_hits(
     g: Grid,
     map: &[u8],
     c: Vec2,
@@ -66,42 +65,97 @@ fn box_hits(
     w: &[f64],
     n: usize,
     at: usize,
-    s: usize,
     i: usize,
     j: usize,
+    b: usize,
 ) -> usize
     requires { ⌜ Over g (length (now map)) ⌝ }
-    requires { ⌜ Rim n (now w) ⌝ }
-    requires { ⌜ (n ≤ 2048) × (at ≤ 14848) × (16900 ≤ length (now w)) ⌝ }
-    requires { ⌜ FirstsTo (g .cell) (g .nx) (now w) × FirstsTo (g .cell) (g .ny) (now w) × EntriesTo g r n at s n (now w) ⌝ }
-    requires { ⌜ (cellOf g c ≡ At (i + s) (j + s)) × Roomy g s (i + s) (j + s) ⌝ }
-    ensures { λ h. ⌜ h ≡ hitsOf g (now (map .entry)) c r n ⌝ }
+    requires { ⌜ Around g c r (now w) n at i j ⌝ }
+    requires { ⌜ 8 * b < n ⌝ }
+    ensures { λ h. ⌜ h ≡ loop (hitAt g (now (map .entry)) c r n) (8 * b) (min (8 * b + 8) n) 0 ⌝ }
 {
     let mut h = 0;
-    for k in 0..n {
-        if sample_hit(g, map, c, r, w, n, at, s, i, j, k) {
+    for k in 8 * b..least(8 * b + 8, n) {
+        if sample_hit(g, map, c, r, w, n, at, i, j, k) {
             h += 1;
         }
     }
     h
 }
 
-// The hits of n samples of the rim of radius r around c, by the table at `at`.
-pub fn rim_hits(g: Grid, map: &[u8], c: Vec2, r: f64, w: &[f64], n: usize, at: usize) -> usize
+// Whether a tile tells that no sample of block b is over stock.
+fn is_bare(g: Grid, tiles: &[u8], w: &[f64], at: usize, i: usize, j: usize, b: usize) -> bool
+    requires { ⌜ Sides g ⌝ }
+    requires { ⌜ (tilesOf (g .ny) * tilesOf (g .nx) ≤ length (now tiles)) × (at ≤ 14848) × (17152 ≤ length (now w)) ⌝ }
+    requires { ⌜ BlockOn g (now w) at i j b ⌝ }
+    ensures { λ t. ⌜ (t ≡ true → BareBlock g (now (tiles .entry)) (now (w .entry)) at i j b) ⌝ }
+{
+    if b < 255 {
+        let x = f64::to_bits(w[at + 2049 + b]) as usize;
+        if 0 < x {
+            let p = i + (x - 1) % 4096;
+            let q = j + (x - 1) / 4096;
+            return tiles[q / 8 * tiles_of(g.nx) + p / 8] == 0;
+        }
+    }
+    false
+}
+
+// The hits around c, with the blocks passed over that have none.
+fn box_hits(
+    g: Grid,
+    map: &[u8],
+    tiles: &[u8],
+    c: Vec2,
+    r: f64,
+    w: &[f64],
+    n: usize,
+    at: usize,
+    i: usize,
+    j: usize,
+) -> usize
     requires { ⌜ Over g (length (now map)) ⌝ }
+    requires { ⌜ Tiled g (now map) (now tiles) ⌝ }
+    requires { ⌜ Around g c r (now w) n at i j ⌝ }
+    ensures { λ h. ⌜ h ≡ hitsOf g (now (map .entry)) c r n ⌝ }
+{
+    let mut h = 0;
+    let mut b = 0;
+    while 8 * b < n {
+        if !is_bare(g, tiles, w, at, i, j, b) {
+            h += block_hits(g, map, c, r, w, n, at, i, j, b);
+        }
+        b += 1;
+    }
+    h
+}
+
+// The hits of n samples of the rim of radius r around c, by the table at `at`.
+pub fn rim_hits(
+    g: Grid,
+    map: &[u8],
+    tiles: &[u8],
+    c: Vec2,
+    r: f64,
+    w: &[f64],
+    n: usize,
+    at: usize,
+) -> usize
+    requires { ⌜ Over g (length (now map)) ⌝ }
+    requires { ⌜ Tiled g (now map) (now tiles) ⌝ }
     requires { ⌜ Rim n (now w) ⌝ }
     requires { ⌜ (n ≤ 2048) × (at ≤ 14848) ⌝ }
     requires { ⌜ Boxed g r n at (now w) ⌝ }
     ensures { λ h. ⌜ h ≡ hitsOf g (now (map .entry)) c r n ⌝ }
 {
-    if 16900 <= w.len() {
+    if 17152 <= w.len() {
         let t = f64::to_bits(w[at]) as usize;
         if 0 < t {
             let s = t - 1;
             let f = cell_of(g, c);
             if let Found::At(i, j) = f {
                 if is_roomy(g, s, i, j) {
-                    return box_hits(g, map, c, r, w, n, at, s, i - s, j - s);
+                    return box_hits(g, map, tiles, c, r, w, n, at, i - s, j - s);
                 }
             }
         }

@@ -5,7 +5,7 @@ ghost use Prim.Native.Nat.{_+_, _≤_, _<_};
 ghost use lib.ListN.{length};
 ghost use Rattle.raster.specs.Grid.{Over, centerOf, stockAt};
 ghost use Rattle.raster.specs.Contact.{directionAt, rimAt, hitsOf, Rim};
-ghost use Rattle.rims.specs.Offsets.{reachOf, Roomy, Rims};
+ghost use Rattle.rims.specs.Offsets.{reachOf, Roomy, entryAt, Rims};
 use super::offsets::reach_of;
 use geom::vec2::Vec2;
 use raster::grid::Grid;
@@ -41,7 +41,7 @@ pub fn is_hit(g: Grid, map: &[u8], c: Vec2, r: f64, rim: &[f64], n: usize, k: us
     raster::grid::at(g, map, c.add(u.scale(r)))
 }
 
-// Sample k around the centre of cell (i, j), which has room: by the table, if it tells where the sample lies.
+// Sample k around the centre of cell (i, j), which has room.
 fn sample_hit(
     g: Grid,
     map: &[u8],
@@ -57,13 +57,10 @@ fn sample_hit(
     requires { ⌜ Rims g r n (now w) ⌝ }
     requires { ⌜ s ≡ reachOf g r ⌝ }
     requires { ⌜ Roomy g s i j ⌝ }
-    requires { ⌜ k < n ⌝ }
+    requires { ⌜ (k < n) × (0 < entryAt (now w) k) ⌝ }
     ensures { λ b. ⌜ b ≡ stockAt g (now (map .entry)) (rimAt (centerOf g i j) r (directionAt n k)) ⌝ }
 {
     let e = f64::to_bits(w[4096 + k]) as usize;
-    if e == 0 {
-        return is_hit(g, map, raster::grid::center(g, i, j), r, w, n, k);
-    }
     let nx = g.nx;
     let base = (j - s) * nx + (i - s);
     map[base + (e - 1)] == 1
@@ -84,6 +81,7 @@ fn roomy_hits(
     requires { ⌜ Rims g r n (now w) ⌝ }
     requires { ⌜ s ≡ reachOf g r ⌝ }
     requires { ⌜ Roomy g s i j ⌝ }
+    requires { ⌜ 0 < entryAt (now w) 0 ⌝ }
     ensures { λ h. ⌜ h ≡ hitsOf g (now (map .entry)) (centerOf g i j) r n ⌝ }
 {
     let mut h = 0;
@@ -99,11 +97,14 @@ fn roomy_hits(
 pub fn centre_hits(g: Grid, map: &[u8], r: f64, w: &[f64], n: usize, i: usize, j: usize) -> usize
     requires { ⌜ Over g (length (now map)) ⌝ }
     requires { ⌜ Rims g r n (now w) ⌝ }
+    requires { ⌜ 0 < n ⌝ }
     ensures { λ h. ⌜ h ≡ hitsOf g (now (map .entry)) (centerOf g i j) r n ⌝ }
 {
-    let s = reach_of(g, r);
-    if is_roomy(g, s, i, j) {
-        return roomy_hits(g, map, r, w, n, s, i, j);
+    if f64::to_bits(w[4096]) != 0 {
+        let s = reach_of(g, r);
+        if is_roomy(g, s, i, j) {
+            return roomy_hits(g, map, r, w, n, s, i, j);
+        }
     }
     raster::contact::hits(g, map, raster::grid::center(g, i, j), r, w, n)
 }

@@ -5,7 +5,7 @@ ghost use Prim.Native.Nat.{_+_, _≤_, _<_, _^_};
 ghost use lib.ListN.{length};
 ghost use Rattle.raster.specs.Grid.{Sides};
 ghost use Rattle.raster.specs.Contact.{Rim};
-ghost use Rattle.rims.specs.Offsets.{reachOf, middleOf, placeOf, Fixed, Entry, Rims};
+ghost use Rattle.rims.specs.Offsets.{reachOf, middleOf, placeOf, Fixed, Entry, Words, AllTold, Entered, Rims};
 use geom::vec2::Vec2;
 use numbers::cast::float_of;
 use numbers::cast::sat_u32;
@@ -84,13 +84,13 @@ fn entry_of(g: Grid, r: f64, s: usize, u: Vec2) -> u64
     0
 }
 
-// Works out the table of n samples behind their directions.
-pub fn fill(g: Grid, r: f64, n: usize, w: &mut [f64])
+// Works out the entries of n samples behind their directions.
+fn fill_entries(g: Grid, r: f64, n: usize, w: &mut [f64])
     requires { ⌜ Sides g ⌝ }
     requires { ⌜ Rim n (now w) ⌝ }
     requires { ⌜ n ≤ 2048 ⌝ }
     requires { ⌜ 6144 ≤ length (now w) ⌝ }
-    ensures { λ _. ⌜ Rims g r n (now (w .exit)) ⌝ }
+    ensures { λ _. ⌜ (length (now (w .exit)) ≡ length (now (w .entry))) × Entered g r n (now (w .exit)) ⌝ }
 {
     let s = reach_of(g, r);
     for k in 0..n {
@@ -99,5 +99,33 @@ pub fn fill(g: Grid, r: f64, n: usize, w: &mut [f64])
             y: w[2 * k + 1],
         };
         w[4096 + k] = f64::from_bits(entry_of(g, r, s, u));
+    }
+}
+
+// Whether each of n samples has a cell.
+fn are_told(w: &[f64], n: usize) -> bool
+    requires { ⌜ Words n (now w) ⌝ }
+    ensures { λ b. ⌜ (b ≡ true → AllTold n (now (w .entry))) ⌝ }
+{
+    for k in 0..n {
+        if f64::to_bits(w[4096 + k]) == 0 {
+            return false;
+        }
+    }
+    true
+}
+
+// Works out the table of n samples behind their directions. Where one has no cell the first is told to have none: so one
+// look tells whether the table serves.
+pub fn fill(g: Grid, r: f64, n: usize, w: &mut [f64])
+    requires { ⌜ Sides g ⌝ }
+    requires { ⌜ Rim n (now w) ⌝ }
+    requires { ⌜ n ≤ 2048 ⌝ }
+    requires { ⌜ 6144 ≤ length (now w) ⌝ }
+    ensures { λ _. ⌜ Rims g r n (now (w .exit)) ⌝ }
+{
+    fill_entries(g, r, n, w);
+    if !are_told(w, n) {
+        w[4096] = 0.0;
     }
 }

@@ -59,7 +59,7 @@ fn first_of(cell: f64, m: usize) -> u64
 // Writes the first numbers of the cells below n; whether all were found.
 fn fill_firsts(cell: f64, n: usize, w: &mut [f64]) -> bool
     requires { ⌜ (isFinite cell ≡ true) × (lt f0 cell ≡ true) ⌝ }
-    requires { ⌜ (n ≤ 4096) × (16900 ≤ length (now w)) ⌝ }
+    requires { ⌜ (n ≤ 4096) × (17152 ≤ length (now w)) ⌝ }
     ensures { λ t. ⌜ Apart 8193 12289 (now (w .entry)) (now (w .exit)) × (t ≡ true → FirstsTo cell n (now (w .exit))) ⌝ }
 {
     for m in 1..n {
@@ -85,7 +85,7 @@ pub fn fill_thresholds(g: Grid, w: &mut [f64])
     requires { ⌜ Sides g ⌝ }
     ensures { λ _. ⌜ Apart 8192 12289 (now (w .entry)) (now (w .exit)) × Started g (now (w .exit)) ⌝ }
 {
-    if w.len() < 16900 {
+    if w.len() < 17152 {
         return;
     }
     w[8192] = 0.0;

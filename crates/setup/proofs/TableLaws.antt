@@ -41,9 +41,9 @@ RimTables s n w = Rims (s .grid) (s .r) n w × Boxed (s .grid) (s .«r_guard») 
 
 module _ (s : Setup) (S : Sides (s .grid)) where
   pub rim-tables : (n : ℕ) (w v : List Float) → n ≡ samplesOf (s .samples) → Rims (s .grid) (s .r) n w
-      → Apart 8192 16897 w v × Boxed (s .grid) (s .«r_guard») n 12544 v × Boxed (s .grid) (lessOf s) n 14848 v → RimTables s (samplesOf (s .samples)) v
+      → Apart 8192 17152 w v × Boxed (s .grid) (s .«r_guard») n 12544 v × Boxed (s .grid) (lessOf s) n 14848 v → RimTables s (samplesOf (s .samples)) v
   rim-tables n w v e R B =
-      subst (λ (k : ℕ). RimTables s k v) e (rims-apart (s .grid) S (s .r) n 12544 8192 16897 (R .few) w v (B .0) (omega arith) R, B .1, B .2)
+      subst (λ (k : ℕ). RimTables s k v) e (rims-apart (s .grid) S (s .r) n 12544 8192 17152 (R .few) w v (B .0) (omega arith) R, B .1, B .2)
 
   pub tables-are : (w u : List Float) → 8192 ≤ length w → length u ≡ length (take 2048 (drop 6144 w)) → RimTables s (samplesOf (s .samples)) w → Spanning (s .grid) (s .r) u
       → Tables s (putMid 6144 2048 w u)

@@ -5,6 +5,7 @@ ghost use lib.ListN.{length};
 ghost use Rattle.raster.specs.Grid.{Over};
 ghost use Rattle.raster.specs.Contact.{samplesOf};
 ghost use Rattle.rims.specs.Boxes.{Boxed};
+ghost use Rattle.rims.specs.Tiles.{Tiled};
 ghost use Rattle.setup.specs.Tables.{lessOf, Tables};
 ghost use Rattle.setup.specs.Place.{Walls, wallAt, allowedAt, freeAt, contactAt, biteOf};
 use super::Setup;
@@ -55,36 +56,39 @@ pub fn free(s: Setup, map: &[u8], p: Vec2) -> bool
 }
 
 // Contact of a tool of radius r at p, by the table at `at`.
-fn contact(s: Setup, map: &[u8], rim: &[f64], p: Vec2, r: f64, at: usize) -> Contact
+fn contact(s: Setup, map: &[u8], tiles: &[u8], rim: &[f64], p: Vec2, r: f64, at: usize) -> Contact
     requires { ⌜ Over (s .grid) (length (now map)) ⌝ }
+    requires { ⌜ Tiled (s .grid) (now map) (now tiles) ⌝ }
     requires { ⌜ Tables s (now rim) ⌝ }
     requires { ⌜ (at ≤ 14848) × Boxed (s .grid) r (samplesOf (s .samples)) at (now rim) ⌝ }
     ensures { λ t. ⌜ t ≡ contactAt s (now (map .entry)) p r ⌝ }
 {
     let n = samples_of(s.samples);
     Contact {
-        hits: rim_hits(s.grid, map, p, r, rim, n, at),
+        hits: rim_hits(s.grid, map, tiles, p, r, rim, n, at),
         samples: n,
     }
 }
 
 // At the wider radius, as of a pass.
-pub fn contact_wide(s: Setup, map: &[u8], rim: &[f64], p: Vec2) -> Contact
+pub fn contact_wide(s: Setup, map: &[u8], tiles: &[u8], rim: &[f64], p: Vec2) -> Contact
     requires { ⌜ Over (s .grid) (length (now map)) ⌝ }
+    requires { ⌜ Tiled (s .grid) (now map) (now tiles) ⌝ }
     requires { ⌜ Tables s (now rim) ⌝ }
     ensures { λ t. ⌜ t ≡ contactAt s (now (map .entry)) p (s .«r_guard») ⌝ }
 {
-    contact(s, map, rim, p, s.r_guard, 12544)
+    contact(s, map, tiles, rim, p, s.r_guard, 12544)
 }
 
 // At a cell less than the tool's radius, as of a link.
-pub fn contact_less(s: Setup, map: &[u8], rim: &[f64], p: Vec2) -> Contact
+pub fn contact_less(s: Setup, map: &[u8], tiles: &[u8], rim: &[f64], p: Vec2) -> Contact
     requires { ⌜ Over (s .grid) (length (now map)) ⌝ }
+    requires { ⌜ Tiled (s .grid) (now map) (now tiles) ⌝ }
     requires { ⌜ Tables s (now rim) ⌝ }
     ensures { λ t. ⌜ t ≡ contactAt s (now (map .entry)) p (lessOf s) ⌝ }
 {
     let g = s.grid;
-    contact(s, map, rim, p, s.r - g.cell, 14848)
+    contact(s, map, tiles, rim, p, s.r - g.cell, 14848)
 }
 
 // How deep a straight cut at the target bites.

@@ -4,5 +4,5 @@ mod columns;
 pub mod crescent;
 pub mod edges;
 mod heights;
-mod runs;
+pub mod runs;
 pub mod table;

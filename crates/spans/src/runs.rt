@@ -20,7 +20,7 @@ pub struct Limits {
 }
 
 // Whether one of the cells from..to is stock.
-fn has_stock(map: &[u8], from: usize, to: usize) -> bool
+pub fn has_stock(map: &[u8], from: usize, to: usize) -> bool
     requires { ⌜ to ≤ length (now map) ⌝ }
     ensures { λ b. ⌜ b ≡ any (isStock (now (map .entry))) from to ⌝ }
 {

@@ -23,14 +23,14 @@ div-t9 : tie.Need-div-t9
 div-t9 c = search needs
 
 add-t10 : tie.Need-add-t10
-add-t10 c = omega (arith, div-le-self (c .before .end-of .result - 1) (c .before .before .before .before .args .g .nx))
+add-t10 c = omega (arith, div-le-self (c .before .end-of .result - 1) (c .before .before .before .before .args .nx))
 
 returns : tie.Need-returns
 returns c =
     let p = c .before .before .before .before .pre in
     let first = c .before .before .first-of .ensures in
     let end = c .before .end-of .ensures in
-    marked-some _ _ _ (first .1) (end .1) _ _ (p .1) (p .0 .wide) (end .0) (c .if1 .taken)
+    marked-some _ _ _ (first .1) (end .1) _ _ (p .1) (p .0) (end .0) (c .if1 .taken)
 
 returns-2 : tie.Need-returns-2
 returns-2 c =

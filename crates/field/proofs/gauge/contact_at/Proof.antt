@@ -1,7 +1,9 @@
 -- `field::gauge::contact_at` meets its contract. Assumes nothing.
 use mathlib.Core.Path.{sym, subst}
 use Prim.Native.Nat.{ℕ}
+use native.Mathlib.Omega.{arith}
 use borrow.Author.Needs.{needs}
+use Rattle.raster.specs.Contact.{samplesOf}
 use Rattle.raster.proofs.ContactLaws.{contact-is}
 use Rattle.rims.specs.Offsets.{Rims}
 use Rattle.setup.specs.Place.{contactAt}
@@ -12,9 +14,11 @@ samples-of-requires : tie.Need-samples-of-requires
 samples-of-requires c κs = search needs
 
 centre-hits-requires : tie.Need-centre-hits-requires
+unfolding samplesOf
 centre-hits-requires c κs =
     let s = c .before .before .before in
-    (s .pre .0, subst (λ (n : ℕ). Rims (s .args .s .grid) (s .args .s .r) n (s .args .rim .now)) (sym (c .samples-of .ensures)) (s .pre .1 .rims))
+    let n = c .samples-of .ensures in
+    (s .pre .0, (subst (λ (n : ℕ). Rims (s .args .s .grid) (s .args .s .r) n (s .args .rim .now)) (sym n) (s .pre .1 .rims), omega (arith, n)))
 
 returns : tie.Need-returns
 unfolding contactAt

@@ -94,13 +94,13 @@ part-field-rows-end-6 c = search needs
 field-rows-requires : tie.Need-field-rows-requires
 field-rows-requires c κs =
     let p = c .before .before .before .before .before .before .before .before .before .before .before .before .before .before .pre in
-    (p .0, sensing-in _ _ _ _ _ (p .1) _ _ _ _ (c .before .before .before .before .before .before .before .before .before .cells .ensures) (c .before .before .before .before .before .before .before .before .allowed .ensures) (c .before .before .before .before .before .before .before .near .ensures) (c .before .before .before .before .before .before .rim .ensures))
+    (p .0, (sensing-in _ _ _ _ _ (p .1 .0) _ _ _ _ (c .before .before .before .before .before .before .before .before .before .cells .ensures) (c .before .before .before .before .before .before .before .before .allowed .ensures) (c .before .before .before .before .before .before .before .near .ensures) (c .before .before .before .before .before .before .rim .ensures), p .1 .1))
 
 same-length : tie.Need-same-length
 same-length c = search needs
 
 returns : tie.Need-returns
-returns c = rowed-is _ _ _ _ _ (c .before .before .before .before .before .before .before .before .before .before .before .before .before .before .before .before .before .pre .1) _ _ _ _ (c .before .before .before .before .before .before .before .before .before .before .before .before .cells .ensures) (c .before .before .before .before .before .before .before .before .before .before .before .allowed .ensures) (c .before .before .before .before .before .before .before .before .before .before .near .ensures) (c .before .before .before .before .before .before .before .before .before .rim .ensures) _ _ _ _ (c .before .before .field-rows .ensures)
+returns c = rowed-is _ _ _ _ _ (c .before .before .before .before .before .before .before .before .before .before .before .before .before .before .before .before .before .pre .1 .0) _ _ _ _ (c .before .before .before .before .before .before .before .before .before .before .before .before .cells .ensures) (c .before .before .before .before .before .before .before .before .before .before .before .allowed .ensures) (c .before .before .before .before .before .before .before .before .before .before .near .ensures) (c .before .before .before .before .before .before .before .before .before .rim .ensures) _ _ _ _ (c .before .before .field-rows .ensures)
 
 pub rows-spec : {M : Type 1} → statement M
 rows-spec =

@@ -4,35 +4,43 @@ use Prim.Native.Nat.{_+_, _-_, _*_}
 use native.Mathlib.Omega.{arith}
 use lib.ListN.{length}
 use Rattle.loops.proofs.LoopLaws.{Going, going-none, going-more, going-end}
-use Rattle.field.specs.Field.{sensed, fieldCell, fieldRow}
+use Rattle.field.specs.Field.{sensed, fieldCell}
 use Rattle.field.specs.Gauge.{Sensing}
 use Rattle.field.proofs.FieldLaws.{Swept, row-run}
+use Rattle.field.proofs.SweepLaws.{row-is}
+use borrow.Author.Needs.{needs}
 use Rattle.field.proofs.rows.field_row.Statement.{statement}
 use Rattle.field.proofs.rows.field_row.Tie as tie
 
 abbrev Inv-loop : tie.InvT-loop
-Inv-loop g map allowed stock near rim f₀ j sampled nx n₀ i₀ i-end f n i = Going (fieldCell (g .setup) (g .all) map allowed stock near j) 1 (g .setup .grid .nx - 1) (sensed f₀ sampled) (sensed f n) i
+Inv-loop g map allowed stock near rim f₀ j sampled first end n₀ i₀ f n i = Going (fieldCell (g .setup) (g .all) map allowed stock near j) first end (sensed f₀ sampled) (sensed f n) i
 
 abbrev μ-loop : tie.MeasureT-loop
-μ-loop g map allowed stock near rim f₀ j sampled nx n₀ i₀ i-end f n i = g .setup .grid .nx - 1 - i
+μ-loop g map allowed stock near rim f₀ j sampled first end n₀ i₀ f n i = end - i
 
-sub-i-end : tie.Need-sub-i-end Inv-loop μ-loop
-sub-i-end c = c .before .before .before .before .before .before .pre .1 .0 .over .sides .wide
+greater-requires : tie.Need-greater-requires Inv-loop μ-loop
+greater-requires c κs = search needs
+
+sub-lesser : tie.Need-sub-lesser Inv-loop μ-loop
+sub-lesser c = c .before .before .before .before .before .before .before .before .pre .1 .0 .over .sides .wide
+
+lesser-requires : tie.Need-lesser-requires Inv-loop μ-loop
+lesser-requires c κs = search needs
 
 loop-holds : tie.Need-loop-holds Inv-loop μ-loop
 loop-holds c = going-none _ _ _ _
 
-swept : (c : tie.At-loop Inv-loop μ-loop) → let s = c .before .before .before .before .before .before .before in Swept (length (s .args .f .now)) (s .args .j * s .args .g .setup .grid .nx + c .loop .i) (sensed (c .loop .f) (c .loop .n))
+swept : (c : tie.At-loop Inv-loop μ-loop) → let s = c .before .before .before .before .before .before .before .before .before .before in Swept (length (s .args .f .now)) (s .args .j * s .args .g .setup .grid .nx + c .loop .i) (sensed (c .loop .f) (c .loop .n))
 swept c =
-    let s = c .before .before .before .before .before .before .before in
+    let s = c .before .before .before .before .before .before .before .before .before .before in
     subst (Swept (length (s .args .f .now)) (s .args .j * s .args .g .setup .grid .nx + c .loop .i)) (sym (c .loop .inv .is))
-    (row-run _ _ _ _ _ _ _ (s .args .j) (c .loop .i) _ (c .loop .inv .low) (record { long = refl; few = s .pre .1 .1 .1 }))
+    (row-run _ _ _ _ _ _ _ (s .args .j) _ (c .loop .i) _ (c .loop .inv .low) (record { long = refl; few = s .pre .1 .1 .1 }))
 
 field-cell-requires : tie.Need-field-cell-requires Inv-loop μ-loop
 field-cell-requires c κs =
-    let s = c .before .before .before .before .before .before .before .before .before in
+    let s = c .before .before .before .before .before .before .before .before .before .before .before .before in
     let w = swept (c .before .before) in
-    (s .pre .0, (subst (Sensing (s .args .g .setup) (s .args .map .now) (s .args .allowed .now) (s .args .stock .now) (s .args .near .now) (s .args .rim .now)) (sym (w .long)) (s .pre .1 .0), (omega (arith, c .before .loop-test .taken), s .pre .1 .1 .0, w .few)))
+    (s .pre .0, (subst (Sensing (s .args .g .setup) (s .args .map .now) (s .args .allowed .now) (s .args .stock .now) (s .args .near .now) (s .args .rim .now)) (sym (w .long)) (s .pre .1 .0), (omega (arith, c .before .loop-test .taken, c .before .before .before .lesser .ensures), s .pre .1 .1 .0, w .few)))
 
 add-i : tie.Need-add-i Inv-loop μ-loop
 add-i c = omega arith
@@ -47,8 +55,7 @@ same-length : tie.Need-same-length Inv-loop μ-loop
 same-length c = swept (c .before) .long
 
 returns : tie.Need-returns Inv-loop μ-loop
-unfolding fieldRow
-returns c = going-end _ _ _ _ _ _ (c .before .loop .inv) (c .loop-test .left)
+returns c = row-is _ _ _ _ _ _ _ _ _ _ _ _ (c .before .before .before .before .greater .ensures) (c .before .before .lesser .ensures) (going-end _ _ _ _ _ _ (c .before .loop .inv) (c .loop-test .left))
 
 pub field-row-spec : {M : Type 1} → statement M
 field-row-spec =
@@ -56,7 +63,9 @@ field-row-spec =
     (tie.spec
     Inv-loop
     μ-loop
-    sub-i-end
+    greater-requires
+    sub-lesser
+    lesser-requires
     loop-holds
     field-cell-requires
     add-i

@@ -30,10 +30,10 @@ part-search-end c = search needs
 
 search-requires : tie.Need-search-requires
 unfolding within
-search-requires c κs = let s = c .before .before .before .before .before .before .before .before .before .before .before in around-asks _ _ _ (s .args .map .now) (s .args .allowed .now) _ (s .pre .0) _ (s .pre .1 .0) (s .pre .1 .1 .0) (s .pre .1 .1 .1 .0) (s .args .u .now) (s .pre .1 .1 .1 .1) _ (c .before .before .before .before .cells .ensures) _ (c .before .before .before .cost .ensures) _ (c .before .before .path .ensures)
+search-requires c κs = let s = c .before .before .before .before .before .before .before .before .before .before .before .before in around-asks _ _ _ (s .args .map .now) (s .args .allowed .now) _ (s .pre .0) _ (s .pre .1 .1 .0) (s .pre .1 .1 .1 .0) (s .pre .1 .1 .1 .1 .0) (s .args .u .now) (s .pre .1 .1 .1 .1 .1) _ (c .before .before .before .before .cells .ensures) _ (c .before .before .before .cost .ensures) _ (c .before .before .path .ensures)
 
 mul-work : tie.Need-mul-work
-mul-work c = let s = c .before .before .before .before .before .before .before .before .before .before .before .before .before .before .before .before .before in let e = c .before .before .before .before .before .search .ensures in omega (arith, work-few _ _ _ (s .args .map .now) (s .args .allowed .now) _ (s .pre .0) _ (s .pre .1 .0) (s .pre .1 .1 .0) (s .pre .1 .1 .1 .0) (s .args .u .now) (s .pre .1 .1 .1 .1) _ (c .before .before .before .before .before .before .before .before .before .before .cells .ensures) _ (c .before .before .before .before .before .before .before .before .before .cost .ensures) _ (c .before .before .before .before .before .before .before .before .path .ensures) _ _ (c .before .before .before .before .before .search .last .1 .1 .1 .1 .0) (e .0) (e .1 .0) (e .1 .1))
+mul-work c = let s = c .before .before .before .before .before .before .before .before .before .before .before .before .before .before .before .before .before .before in let e = c .before .before .before .before .before .search .ensures in omega (arith, work-few _ _ _ (s .args .map .now) (s .args .allowed .now) _ (s .pre .0) _ (s .pre .1 .1 .0) (s .pre .1 .1 .1 .0) (s .pre .1 .1 .1 .1 .0) (s .args .u .now) (s .pre .1 .1 .1 .1 .1) _ (c .before .before .before .before .before .before .before .before .before .before .cells .ensures) _ (c .before .before .before .before .before .before .before .before .before .cost .ensures) _ (c .before .before .before .before .before .before .before .before .path .ensures) _ _ (c .before .before .before .before .before .search .last .1 .1 .1 .1 .0) (e .0) (e .1 .0) (e .1 .1))
 
 same-length : tie.Need-same-length
 same-length c = search needs
@@ -43,11 +43,11 @@ same-length-2 c = search needs
 
 returns : tie.Need-returns
 unfolding within
-returns c = let s = c .before .before .before .before .before .before .before .before .before .before .before .before .before .before .before .before .before .before .before in let e = c .before .before .before .before .before .before .before .search .ensures in around-not _ _ _ (s .args .map .now) (s .args .allowed .now) _ (s .pre .0) _ (s .pre .1 .0) (s .pre .1 .1 .0) (s .pre .1 .1 .1 .0) (s .args .u .now) (s .pre .1 .1 .1 .1) _ (c .before .before .before .before .before .before .before .before .before .before .before .before .cells .ensures) _ (c .before .before .before .before .before .before .before .before .before .before .before .cost .ensures) _ (c .before .before .before .before .before .before .before .before .before .before .path .ensures) _ _ (c .before .before .before .before .before .before .before .search .last .1 .1 .1 .1 .0) (e .0) (e .1 .0) (e .1 .1) _ _ (not-true _ (c .if1 .taken))
+returns c = let s = c .before .before .before .before .before .before .before .before .before .before .before .before .before .before .before .before .before .before .before .before in let e = c .before .before .before .before .before .before .before .search .ensures in around-not _ _ _ (s .args .map .now) (s .args .allowed .now) _ (s .pre .0) _ (s .pre .1 .1 .0) (s .pre .1 .1 .1 .0) (s .pre .1 .1 .1 .1 .0) (s .args .u .now) (s .pre .1 .1 .1 .1 .1) _ (c .before .before .before .before .before .before .before .before .before .before .before .before .cells .ensures) _ (c .before .before .before .before .before .before .before .before .before .before .before .cost .ensures) _ (c .before .before .before .before .before .before .before .before .before .before .path .ensures) _ _ (c .before .before .before .before .before .before .before .search .last .1 .1 .1 .1 .0) (e .0) (e .1 .0) (e .1 .1) _ _ (not-true _ (c .if1 .taken))
 
 trace-requires : tie.Need-trace-requires
 unfolding within
-trace-requires c κs = let s = c .before .before .before .before .before .before .before .before .before .before .before .before .before .before .before .before .before .before .before .before .before in let e = c .before .before .before .before .before .before .before .before .before .search .ensures in trace-asks _ _ _ (s .args .map .now) (s .args .allowed .now) _ (s .pre .0) _ (s .pre .1 .0) (s .pre .1 .1 .0) (s .pre .1 .1 .1 .0) (s .args .u .now) (s .pre .1 .1 .1 .1) _ (c .before .before .before .before .before .before .before .before .before .before .before .before .before .before .cells .ensures) _ (c .before .before .before .before .before .before .before .before .before .before .before .before .before .cost .ensures) _ (c .before .before .before .before .before .before .before .before .before .before .before .before .path .ensures) _ _ (c .before .before .before .before .before .before .before .before .before .search .last .1 .1 .1 .1 .0) (e .0) (e .1 .0) (e .1 .1)
+trace-requires c κs = let s = c .before .before .before .before .before .before .before .before .before .before .before .before .before .before .before .before .before .before .before .before .before .before in let e = c .before .before .before .before .before .before .before .before .before .search .ensures in trace-asks _ _ _ (s .args .map .now) (s .args .allowed .now) _ (s .pre .0) _ (s .pre .1 .1 .0) (s .pre .1 .1 .1 .0) (s .pre .1 .1 .1 .1 .0) (s .args .u .now) (s .pre .1 .1 .1 .1 .1) _ (c .before .before .before .before .before .before .before .before .before .before .before .before .before .before .cells .ensures) _ (c .before .before .before .before .before .before .before .before .before .before .before .before .before .cost .ensures) _ (c .before .before .before .before .before .before .before .before .before .before .before .before .path .ensures) _ _ (c .before .before .before .before .before .before .before .before .before .search .last .1 .1 .1 .1 .0) (e .0) (e .1 .0) (e .1 .1) (s .args .tiles .now) (s .pre .1 .0)
 
 enum-told : tie.Need-enum-told
 enum-told c = search needs
@@ -63,7 +63,7 @@ same-length-4 c = search needs
 
 returns-2 : tie.Need-returns-2
 unfolding within
-returns-2 c = let s = c .before .before .before .before .before .before .before .before .before .before .before .before .before .before .before .before .before .before .before .before .before .before .before .before .before .before in let e = c .before .before .before .before .before .before .before .before .before .before .before .before .before .before .search .ensures in let t = c .before .before .before .before .trace .ensures in around-lost _ _ _ (s .args .map .now) (s .args .allowed .now) _ (s .pre .0) _ (s .pre .1 .0) (s .pre .1 .1 .0) (s .pre .1 .1 .1 .0) (s .args .u .now) (s .pre .1 .1 .1 .1) _ (c .before .before .before .before .before .before .before .before .before .before .before .before .before .before .before .before .before .before .before .cells .ensures) _ (c .before .before .before .before .before .before .before .before .before .before .before .before .before .before .before .before .before .before .cost .ensures) _ (c .before .before .before .before .before .before .before .before .before .before .before .before .before .before .before .before .before .path .ensures) _ _ (c .before .before .before .before .before .before .before .before .before .before .before .before .before .before .search .last .1 .1 .1 .1 .0) (e .0) (e .1 .0) (e .1 .1) _ _ (not-false _ (c .before .before .before .before .before .before .before .if1 .left)) (c .before .before .before .before .trace .result) _ (t .0) (t .1) (c .enum-told .given .1)
+returns-2 c = let s = c .before .before .before .before .before .before .before .before .before .before .before .before .before .before .before .before .before .before .before .before .before .before .before .before .before .before .before in let e = c .before .before .before .before .before .before .before .before .before .before .before .before .before .before .search .ensures in let t = c .before .before .before .before .trace .ensures in around-lost _ _ _ (s .args .map .now) (s .args .allowed .now) _ (s .pre .0) _ (s .pre .1 .1 .0) (s .pre .1 .1 .1 .0) (s .pre .1 .1 .1 .1 .0) (s .args .u .now) (s .pre .1 .1 .1 .1 .1) _ (c .before .before .before .before .before .before .before .before .before .before .before .before .before .before .before .before .before .before .before .cells .ensures) _ (c .before .before .before .before .before .before .before .before .before .before .before .before .before .before .before .before .before .before .cost .ensures) _ (c .before .before .before .before .before .before .before .before .before .before .before .before .before .before .before .before .before .path .ensures) _ _ (c .before .before .before .before .before .before .before .before .before .before .before .before .before .before .search .last .1 .1 .1 .1 .0) (e .0) (e .1 .0) (e .1 .1) _ _ (not-false _ (c .before .before .before .before .before .before .before .if1 .left)) (c .before .before .before .before .trace .result) _ (t .0) (t .1) (c .enum-told .given .1)
 
 same-length-5 : tie.Need-same-length-5
 same-length-5 c = search needs
@@ -73,7 +73,7 @@ same-length-6 c = search needs
 
 returns-3 : tie.Need-returns-3
 unfolding within
-returns-3 c = let s = c .before .before .before .before .before .before .before .before .before .before .before .before .before .before .before .before .before .before .before .before .before .before .before .before .before .before .before in let e = c .before .before .before .before .before .before .before .before .before .before .before .before .before .before .before .search .ensures in let t = c .before .before .before .before .before .trace .ensures in around-found _ _ _ (s .args .map .now) (s .args .allowed .now) _ (s .pre .0) _ (s .pre .1 .0) (s .pre .1 .1 .0) (s .pre .1 .1 .1 .0) (s .args .u .now) (s .pre .1 .1 .1 .1) _ (c .before .before .before .before .before .before .before .before .before .before .before .before .before .before .before .before .before .before .before .before .cells .ensures) _ (c .before .before .before .before .before .before .before .before .before .before .before .before .before .before .before .before .before .before .before .cost .ensures) _ (c .before .before .before .before .before .before .before .before .before .before .before .before .before .before .before .before .before .before .path .ensures) _ _ (c .before .before .before .before .before .before .before .before .before .before .before .before .before .before .before .search .last .1 .1 .1 .1 .0) (e .0) (e .1 .0) (e .1 .1) _ _ (not-false _ (c .before .before .before .before .before .before .before .before .if1 .left)) (c .before .before .before .before .before .trace .result) _ (t .0) (t .1) _ (c .before .k .given .1)
+returns-3 c = let s = c .before .before .before .before .before .before .before .before .before .before .before .before .before .before .before .before .before .before .before .before .before .before .before .before .before .before .before .before in let e = c .before .before .before .before .before .before .before .before .before .before .before .before .before .before .before .search .ensures in let t = c .before .before .before .before .before .trace .ensures in around-found _ _ _ (s .args .map .now) (s .args .allowed .now) _ (s .pre .0) _ (s .pre .1 .1 .0) (s .pre .1 .1 .1 .0) (s .pre .1 .1 .1 .1 .0) (s .args .u .now) (s .pre .1 .1 .1 .1 .1) _ (c .before .before .before .before .before .before .before .before .before .before .before .before .before .before .before .before .before .before .before .before .cells .ensures) _ (c .before .before .before .before .before .before .before .before .before .before .before .before .before .before .before .before .before .before .before .cost .ensures) _ (c .before .before .before .before .before .before .before .before .before .before .before .before .before .before .before .before .before .before .path .ensures) _ _ (c .before .before .before .before .before .before .before .before .before .before .before .before .before .before .before .search .last .1 .1 .1 .1 .0) (e .0) (e .1 .0) (e .1 .1) _ _ (not-false _ (c .before .before .before .before .before .before .before .before .if1 .left)) (c .before .before .before .before .before .trace .result) _ (t .0) (t .1) _ (c .before .k .given .1)
 
 pub around-spec : {M : Type 1} → statement M
 around-spec =

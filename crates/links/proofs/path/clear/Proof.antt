@@ -42,11 +42,11 @@ part-link-clear-end-2 c = search needs
 
 link-clear-requires : tie.Need-link-clear-requires
 unfolding within
-link-clear-requires c κs = let s = c .before .before .before .before .before .before .before .before .before in let N = c .before .before .before .before .cells .ensures in (subst (λ (k : ℕ). Walls (s .args .s) (take (k - 0) (drop 0 (s .args .w .now))) (s .args .vs .now) (s .args .lens .now)) (sym N) (s .pre .walls), (s .pre .over, rim-at (s .args .s) (s .args .w .now) _ N _ (c .before .before .before .rim .ensures) _ (c .before .before .tables-end .ensures) (s .pre .tables)))
+link-clear-requires c κs = let s = c .before .before .before .before .before .before .before .before .before .before in let N = c .before .before .before .before .cells .ensures in (subst (λ (k : ℕ). Walls (s .args .s) (take (k - 0) (drop 0 (s .args .w .now))) (s .args .vs .now) (s .args .lens .now)) (sym N) (s .pre .0 .walls), (s .pre .0 .over, (s .pre .1, rim-at (s .args .s) (s .args .w .now) _ N _ (c .before .before .before .rim .ensures) _ (c .before .before .tables-end .ensures) (s .pre .0 .tables))))
 
 returns : tie.Need-returns
 unfolding within
-returns c = let a = c .before .before .before .before .before .before .before .before .before .before .args in c .link-clear .ensures ∙ ap (λ (k : ℕ). linkClear (a .s) (take (k - 0) (drop 0 (a .w .now))) (a .vs .now) (a .lens .now) (a .map .now) (a .a) (a .b)) (c .before .before .before .before .before .cells .ensures)
+returns c = let a = c .before .before .before .before .before .before .before .before .before .before .before .args in c .link-clear .ensures ∙ ap (λ (k : ℕ). linkClear (a .s) (take (k - 0) (drop 0 (a .w .now))) (a .vs .now) (a .lens .now) (a .map .now) (a .a) (a .b)) (c .before .before .before .before .before .cells .ensures)
 
 pub clear-spec : {M : Type 1} → statement M
 clear-spec =

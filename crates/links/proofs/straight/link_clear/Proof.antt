@@ -11,7 +11,7 @@ returns : tie.Need-returns
 returns c = link-long _ _ _ _ _ _ _ _ (c .before .steps-of .ensures) (c .if1 .taken)
 
 samples-clear-requires : tie.Need-samples-clear-requires
-samples-clear-requires c κs = let p = c .before .before .before .before .before .before .before .before .before .before .pre in (p .0, (p .1 .0, (p .1 .1, c .before .before .if1 .left)))
+samples-clear-requires c κs = let p = c .before .before .before .before .before .before .before .before .before .before .before .pre in (p .0, (p .1 .0, (p .1 .1 .0, (p .1 .1 .1, c .before .before .if1 .left))))
 
 count-disk-requires : tie.Need-count-disk-requires
 count-disk-requires c κs = search needs

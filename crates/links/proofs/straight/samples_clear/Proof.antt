@@ -13,10 +13,10 @@ use Rattle.links.proofs.straight.samples_clear.Statement.{statement}
 use Rattle.links.proofs.straight.samples_clear.Tie as tie
 
 abbrev Inv-loop : tie.InvT-loop
-Inv-loop s wall vs lens map rim a b n k₀ k-end k = Going (orAt (sampleBlocked s wall vs lens map (lessOf s) a b n)) 0 (n + 1) false false k
+Inv-loop s wall vs lens map tiles rim a b n k₀ k-end k = Going (orAt (sampleBlocked s wall vs lens map (lessOf s) a b n)) 0 (n + 1) false false k
 
 abbrev μ-loop : tie.MeasureT-loop
-μ-loop s wall vs lens map rim a b n k₀ k-end k = n + 1 - k
+μ-loop s wall vs lens map tiles rim a b n k₀ k-end k = n + 1 - k
 
 add-k-end : tie.Need-add-k-end Inv-loop μ-loop
 add-k-end c = omega arith
@@ -28,10 +28,10 @@ point-of-requires : tie.Need-point-of-requires Inv-loop μ-loop
 point-of-requires c κs = search needs
 
 clear-at-requires : tie.Need-clear-at-requires Inv-loop μ-loop
-clear-at-requires c κs = let p = c .before .before .before .before .before .before .before .before .pre in (p .0, (p .1 .0, p .1 .1 .0))
+clear-at-requires c κs = let p = c .before .before .before .before .before .before .before .before .before .pre in (p .0, (p .1 .0, (p .1 .1 .0, p .1 .1 .1 .0)))
 
 -- what the call answered
-answer : (c : tie.After-clear-at Inv-loop μ-loop) → let s = c .before .before .before .before .before .before .before .before .before .args in sampleBlocked (s .s) (s .wall .now) (s .vs .now) (s .lens .now) (s .map .now) (lessOf (s .s)) (s .a) (s .b) (s .n) (c .before .before .before .loop .k) ≡ not (c .clear-at .result)
+answer : (c : tie.After-clear-at Inv-loop μ-loop) → let s = c .before .before .before .before .before .before .before .before .before .before .args in sampleBlocked (s .s) (s .wall .now) (s .vs .now) (s .lens .now) (s .map .now) (lessOf (s .s)) (s .a) (s .b) (s .n) (c .before .before .before .loop .k) ≡ not (c .clear-at .result)
 answer c = blocked-is _ _ _ _ _ _ _ _ _ (c .before .before .before .loop .k) _ _ (c .before .point-of .ensures) (c .clear-at .ensures)
 
 returns : tie.Need-returns Inv-loop μ-loop

@@ -11,10 +11,10 @@ use Rattle.passes.proofs.shifts.find_shift.Statement.{statement}
 use Rattle.passes.proofs.shifts.find_shift.Tie as tie
 
 abbrev Inv-loop : tie.InvT-loop
-Inv-loop s wall vs lens rim map g left step most shift work guard w₀ sh₀ tries₀ w sh tries = Going (turn (look s (allowedAt s wall vs lens) map g left step most)) 0 8193 (on (sk shift w₀)) (on (sk sh w)) tries
+Inv-loop s wall vs lens rim map tiles g left step most shift work guard w₀ sh₀ tries₀ w sh tries = Going (turn (look s (allowedAt s wall vs lens) map g left step most)) 0 8193 (on (sk shift w₀)) (on (sk sh w)) tries
 
 abbrev μ-loop : tie.MeasureT-loop
-μ-loop s wall vs lens rim map g left step most shift work guard w₀ sh₀ tries₀ w sh tries = 8193 - tries
+μ-loop s wall vs lens rim map tiles g left step most shift work guard w₀ sh₀ tries₀ w sh tries = 8193 - tries
 
 ease-requires : tie.Need-ease-requires Inv-loop μ-loop
 ease-requires c κs = search needs

@@ -1,4 +1,4 @@
--- `passes::trial::simulate` meets its contract. The invariants: the pass is what the legs so far, and in the leg the samples so far, leave (`Going`), and lengths and room are kept (`Safe`). Each `break 'outer` goes by `leaves`. Assumes nothing.
+-- `passes::trial::simulate` meets its contract. The invariants: the pass is what the legs so far, and in the leg the samples so far, leave (`Going`), and lengths, room and where no stock is are kept (`Safe`). Each `break 'outer` goes by `leaves`. Assumes nothing.
 use mathlib.Core.Bool.{false}
 use mathlib.Core.Path.{_≡_, ap, _∙_}
 use Prim.Native.Nat.{_-_, _/_, _≤_}
@@ -9,6 +9,7 @@ use Rattle.loops.specs.Loop.{Run, on, turn}
 use Rattle.loops.proofs.LoopLaws.{Going, going-none, going-on, going-out, going-end}
 use Rattle.geom.specs.Vec.{f0}
 use Rattle.geom.specs.Points.{points}
+use Rattle.rims.proofs.TileLaws.{tiled-fewer}
 use Rattle.setup.specs.Place.{allowedAt}
 use Rattle.events.specs.Lent.{tripleAt}
 use Rattle.passes.specs.Simulate.{Pass, ps, tr, sampleStep, legStep, simulateOf}
@@ -18,38 +19,38 @@ use Rattle.passes.proofs.trial.simulate.Statement.{statement}
 use Rattle.passes.proofs.trial.simulate.Tie as tie
 
 abbrev Inv-loop : tie.InvT-loop
-Inv-loop s wall vs lens rim guide map₀ log₀ triples₀ kept room t₀ cell h step most m seg leg left n k₀ map log triples t k =
+Inv-loop s wall vs lens rim guide map₀ tiles log₀ triples₀ kept room t₀ cell h step most m seg leg left n k₀ map log triples t k =
     Going (turn (sampleStep s (allowedAt s wall vs lens) kept leg)) 0 n (on (ps map₀ log₀ triples₀ t₀)) (on (ps map log triples t)) k × Safe kept (ps map₀ log₀ triples₀ t₀) (ps map log triples t)
 
 abbrev μ-loop : tie.MeasureT-loop
-μ-loop s wall vs lens rim guide map₀ log₀ triples₀ kept room t₀ cell h step most m seg leg left n k₀ map log triples t k = n - k
+μ-loop s wall vs lens rim guide map₀ tiles log₀ triples₀ kept room t₀ cell h step most m seg leg left n k₀ map log triples t k = n - k
 
 abbrev Inv-outer : tie.InvT-outer
-Inv-outer s wall vs lens rim guide map₀ log₀ triples₀ kept room t₀ cell h step most m seg₀ map log triples t seg =
+Inv-outer s wall vs lens rim guide map₀ tiles log₀ triples₀ kept room t₀ cell h step most m seg₀ map log triples t seg =
     Going (turn (legStep s (allowedAt s wall vs lens) kept (points 0 m guide))) 1 m (on (ps map₀ log₀ triples₀ t₀)) (on (ps map log triples t)) seg × Safe kept (ps map₀ log₀ triples₀ t₀) (ps map log triples t)
 
 abbrev μ-outer : tie.MeasureT-outer
-μ-outer s wall vs lens rim guide map₀ log₀ triples₀ kept room t₀ cell h step most m seg₀ map log triples t seg = m - seg
+μ-outer s wall vs lens rim guide map₀ tiles log₀ triples₀ kept room t₀ cell h step most m seg₀ map log triples t seg = m - seg
 
 -- the pass where the loop over the legs begins, at its head, and at the head of the loop over the samples
 abbrev start : tie.At-outer Inv-loop μ-loop Inv-outer μ-outer → Pass
-start h = ps (h .before .before .before .before .before .before .before .before .before .before .before .before .before .before .before .before .before .args .map .now) (h .before .before .before .before .before .before .before .before .before .before .before .before .before .before .before .before .before .args .log .now) (h .before .before .before .before .before .put-triple .last .0) (tr false 1 0 0 (h .before .before .before .before .before .before .before .before .vertex .result) f0)
+start h = ps (h .before .before .before .before .before .before .before .before .before .before .before .before .before .before .before .before .before .before .args .map .now) (h .before .before .before .before .before .before .before .before .before .before .before .before .before .before .before .before .before .before .args .log .now) (h .before .before .before .before .before .put-triple .last .0) (tr false 1 0 0 (h .before .before .before .before .before .before .before .before .vertex .result) f0)
 
 abbrev here : tie.At-loop Inv-loop μ-loop Inv-outer μ-outer → Pass
 here k = ps (k .loop .map) (k .loop .log) (k .loop .triples) (k .loop .t)
 
-out-same : (h : tie.At-outer Inv-loop μ-loop Inv-outer μ-outer) → length (start h .out) ≡ length (h .before .before .before .before .before .before .before .before .before .before .before .before .before .before .before .before .before .args .triples .now)
-out-same h = ap length (h .before .before .before .before .before .put-triple .ensures) ∙ long-put (h .before .before .before .before .before .before .before .before .before .before .before .before .before .before .before .before .before .args .kept) (tripleAt (h .before .before .before .before .before .before .before .before .vertex .result) f0) (h .before .before .before .before .before .before .before .before .before .before .before .before .before .before .before .before .before .args .triples .now)
+out-same : (h : tie.At-outer Inv-loop μ-loop Inv-outer μ-outer) → length (start h .out) ≡ length (h .before .before .before .before .before .before .before .before .before .before .before .before .before .before .before .before .before .before .args .triples .now)
+out-same h = ap length (h .before .before .before .before .before .put-triple .ensures) ∙ long-put (h .before .before .before .before .before .before .before .before .before .before .before .before .before .before .before .before .before .before .args .kept) (tripleAt (h .before .before .before .before .before .before .before .before .vertex .result) f0) (h .before .before .before .before .before .before .before .before .before .before .before .before .before .before .before .before .before .before .args .triples .now)
 
-some : (h : tie.At-outer Inv-loop μ-loop Inv-outer μ-outer) → 1 ≤ length (h .before .before .before .before .before .before .before .before .before .before .before .before .before .before .before .before .before .args .guide .now) / 2
-some h = half-some _ (h .before .before .before .before .before .before .before .before .before .before .before .before .before .before .before .before .before .pre .1 .1 .point)
+some : (h : tie.At-outer Inv-loop μ-loop Inv-outer μ-outer) → 1 ≤ length (h .before .before .before .before .before .before .before .before .before .before .before .before .before .before .before .before .before .before .args .guide .now) / 2
+some h = half-some _ (h .before .before .before .before .before .before .before .before .before .before .before .before .before .before .before .before .before .before .pre .1 .1 .0 .point)
 
-all-safe : (k : tie.At-loop Inv-loop μ-loop Inv-outer μ-outer) → Safe (k .before .before .before .before .before .before .before .before .before .before .before .before .before .before .before .before .before .before .before .before .before .args .kept) (start (k .before .before .before .before)) (here k)
+all-safe : (k : tie.At-loop Inv-loop μ-loop Inv-outer μ-outer) → Safe (k .before .before .before .before .before .before .before .before .before .before .before .before .before .before .before .before .before .before .before .before .before .before .args .kept) (start (k .before .before .before .before)) (here k)
 all-safe k = safe-then _ _ _ _ (k .before .before .before .before .outer .inv .1) (k .loop .inv .1)
 
 -- a turn over the samples that is left leaves the whole pass: both loops
-leaves : (c : tie.In-loop Inv-loop μ-loop Inv-outer μ-outer) (u : Pass) → sampleStep (c .before .before .before .before .before .before .before .before .before .before .before .before .before .before .before .before .before .before .before .before .before .before .args .s) (allowedAt (c .before .before .before .before .before .before .before .before .before .before .before .before .before .before .before .before .before .before .before .before .before .before .args .s) (c .before .before .before .before .before .before .before .before .before .before .before .before .before .before .before .before .before .before .before .before .before .before .args .wall .now) (c .before .before .before .before .before .before .before .before .before .before .before .before .before .before .before .before .before .before .before .before .before .before .args .vs .now) (c .before .before .before .before .before .before .before .before .before .before .before .before .before .before .before .before .before .before .before .before .before .before .args .lens .now)) (c .before .before .before .before .before .before .before .before .before .before .before .before .before .before .before .before .before .before .before .before .before .before .args .kept) (c .before .before .before .leg-at .result) (c .before .loop .k) (here (c .before)) ≡ Run.out u
-    → u ≡ simulateOf (c .before .before .before .before .before .before .before .before .before .before .before .before .before .before .before .before .before .before .before .before .before .before .args .s) (allowedAt (c .before .before .before .before .before .before .before .before .before .before .before .before .before .before .before .before .before .before .before .before .before .before .args .s) (c .before .before .before .before .before .before .before .before .before .before .before .before .before .before .before .before .before .before .before .before .before .before .args .wall .now) (c .before .before .before .before .before .before .before .before .before .before .before .before .before .before .before .before .before .before .before .before .before .before .args .vs .now) (c .before .before .before .before .before .before .before .before .before .before .before .before .before .before .before .before .before .before .before .before .before .before .args .lens .now)) (points 0 (length (c .before .before .before .before .before .before .before .before .before .before .before .before .before .before .before .before .before .before .before .before .before .before .args .guide .now) / 2) (c .before .before .before .before .before .before .before .before .before .before .before .before .before .before .before .before .before .before .before .before .before .before .args .guide .now)) (c .before .before .before .before .before .before .before .before .before .before .before .before .before .before .before .before .before .before .before .before .before .before .args .kept) (c .before .before .before .before .before .before .before .before .before .before .before .before .before .before .before .before .before .before .before .before .before .before .args .map .now) (c .before .before .before .before .before .before .before .before .before .before .before .before .before .before .before .before .before .before .before .before .before .before .args .log .now) (c .before .before .before .before .before .before .before .before .before .before .before .before .before .before .before .before .before .before .before .before .before .before .args .triples .now)
+leaves : (c : tie.In-loop Inv-loop μ-loop Inv-outer μ-outer) (u : Pass) → sampleStep (c .before .before .before .before .before .before .before .before .before .before .before .before .before .before .before .before .before .before .before .before .before .before .before .args .s) (allowedAt (c .before .before .before .before .before .before .before .before .before .before .before .before .before .before .before .before .before .before .before .before .before .before .before .args .s) (c .before .before .before .before .before .before .before .before .before .before .before .before .before .before .before .before .before .before .before .before .before .before .before .args .wall .now) (c .before .before .before .before .before .before .before .before .before .before .before .before .before .before .before .before .before .before .before .before .before .before .before .args .vs .now) (c .before .before .before .before .before .before .before .before .before .before .before .before .before .before .before .before .before .before .before .before .before .before .before .args .lens .now)) (c .before .before .before .before .before .before .before .before .before .before .before .before .before .before .before .before .before .before .before .before .before .before .before .args .kept) (c .before .before .before .leg-at .result) (c .before .loop .k) (here (c .before)) ≡ Run.out u
+    → u ≡ simulateOf (c .before .before .before .before .before .before .before .before .before .before .before .before .before .before .before .before .before .before .before .before .before .before .before .args .s) (allowedAt (c .before .before .before .before .before .before .before .before .before .before .before .before .before .before .before .before .before .before .before .before .before .before .before .args .s) (c .before .before .before .before .before .before .before .before .before .before .before .before .before .before .before .before .before .before .before .before .before .before .before .args .wall .now) (c .before .before .before .before .before .before .before .before .before .before .before .before .before .before .before .before .before .before .before .before .before .before .before .args .vs .now) (c .before .before .before .before .before .before .before .before .before .before .before .before .before .before .before .before .before .before .before .before .before .before .before .args .lens .now)) (points 0 (length (c .before .before .before .before .before .before .before .before .before .before .before .before .before .before .before .before .before .before .before .before .before .before .before .args .guide .now) / 2) (c .before .before .before .before .before .before .before .before .before .before .before .before .before .before .before .before .before .before .before .before .before .before .before .args .guide .now)) (c .before .before .before .before .before .before .before .before .before .before .before .before .before .before .before .before .before .before .before .before .before .before .before .args .kept) (c .before .before .before .before .before .before .before .before .before .before .before .before .before .before .before .before .before .before .before .before .before .before .before .args .map .now) (c .before .before .before .before .before .before .before .before .before .before .before .before .before .before .before .before .before .before .before .before .before .before .before .args .log .now) (c .before .before .before .before .before .before .before .before .before .before .before .before .before .before .before .before .before .before .before .before .before .before .before .args .triples .now)
 leaves c u e =
     let k = c .before in
     let h = k .before .before .before .before in
@@ -58,10 +59,10 @@ leaves c u e =
     (leg-out _ _ _ _ _ _ (h .outer .inv .0 .low) (k .before .before .before .outer-test .taken) _ _ _ (k .before .before .leg-at .ensures) (going-out _ _ _ _ _ _ _ (k .loop .inv .0) (c .loop-test .taken) e)))
 
 vertex-requires : tie.Need-vertex-requires Inv-loop μ-loop Inv-outer μ-outer
-vertex-requires c κs = omega (arith, c .before .before .before .before .before .before .before .before .pre .1 .1 .point)
+vertex-requires c κs = omega (arith, c .before .before .before .before .before .before .before .before .before .pre .1 .1 .0 .point)
 
 returns : tie.Need-returns Inv-loop μ-loop Inv-outer μ-outer
-returns c = pass-full _ _ _ _ _ (half-some _ (c .before .before .before .before .before .before .before .before .before .before .pre .1 .1 .point)) _ _ _ _ (c .before .vertex .ensures) (c .if1 .taken)
+returns c = pass-full _ _ _ _ _ (half-some _ (c .before .before .before .before .before .before .before .before .before .before .before .pre .1 .1 .0 .point)) _ _ _ _ (c .before .vertex .ensures) (c .if1 .taken)
 
 put-triple-requires : tie.Need-put-triple-requires Inv-loop μ-loop Inv-outer μ-outer
 put-triple-requires c κs = omega (arith, c .before .if1 .left)
@@ -70,7 +71,7 @@ max-shift-requires : tie.Need-max-shift-requires Inv-loop μ-loop Inv-outer μ-o
 max-shift-requires c κs = search needs
 
 outer-holds : tie.Need-outer-holds Inv-loop μ-loop Inv-outer μ-outer
-outer-holds c = (going-none _ _ _ _, safe-start _ _ _ (c .before .before .before .before .before .before .before .before .before .before .before .before .before .before .before .before .args .triples .now) _ _ (c .before .before .before .before .before .before .before .before .before .before .before .before .before .before .before .before .pre .1 .1 .ready) (c .before .before .before .before .before .before .if1 .left) (c .before .before .before .before .put-triple .ensures))
+outer-holds c = (going-none _ _ _ _, safe-start _ _ _ (c .before .before .before .before .before .before .before .before .before .before .before .before .before .before .before .before .before .args .triples .now) _ _ (c .before .before .before .before .before .before .before .before .before .before .before .before .before .before .before .before .before .pre .1 .1 .0 .ready) (c .before .before .before .before .before .before .if1 .left) (c .before .before .before .before .put-triple .ensures))
 
 leg-at-requires : tie.Need-leg-at-requires Inv-loop μ-loop Inv-outer μ-outer
 leg-at-requires c κs = (c .before .outer .inv .0 .low, omega arith)
@@ -85,7 +86,7 @@ sample-requires : tie.Need-sample-requires Inv-loop μ-loop Inv-outer μ-outer
 sample-requires c κs = search needs
 
 find-shift-requires : tie.Need-find-shift-requires Inv-loop μ-loop Inv-outer μ-outer
-find-shift-requires c κs = (let p = c .before .before .before .before .before .before .before .before .before .before .before .before .before .before .before .before .before .before .before .before .before .before .before .before .pre in (p .0, (p .1 .0, over-same _ _ _ (all-safe (c .before .before .before) .cells-long) (p .1 .1 .over))))
+find-shift-requires c κs = let p = c .before .before .before .before .before .before .before .before .before .before .before .before .before .before .before .before .before .before .before .before .before .before .before .before .before .pre in let h = all-safe (c .before .before .before) in (p .0, (p .1 .0, (over-same _ _ _ (h .cells-long) (p .1 .1 .0 .over), tiled-fewer _ _ _ _ (h .fewer) (p .1 .1 .1))))
 
 enum-known-found : tie.Need-enum-known-found Inv-loop μ-loop Inv-outer μ-outer
 enum-known-found c = c .match .keys1
@@ -97,10 +98,10 @@ gap-requires : tie.Need-gap-requires Inv-loop μ-loop Inv-outer μ-outer
 gap-requires c κs = search needs
 
 add-if3 : tie.Need-add-if3 Inv-loop μ-loop Inv-outer μ-outer
-add-if3 c = omega (arith, all-safe (c .before .before .before .before .before .before .before .before .before .before) .room, out-same (c .before .before .before .before .before .before .before .before .before .before .before .before .before .before), c .before .before .before .before .before .before .before .before .before .before .before .before .before .before .before .before .before .before .before .before .before .before .before .before .before .before .before .before .before .before .before .good)
+add-if3 c = omega (arith, all-safe (c .before .before .before .before .before .before .before .before .before .before) .room, out-same (c .before .before .before .before .before .before .before .before .before .before .before .before .before .before), c .before .before .before .before .before .before .before .before .before .before .before .before .before .before .before .before .before .before .before .before .before .before .before .before .before .before .before .before .before .before .before .before .good)
 
 advance-requires : tie.Need-advance-requires Inv-loop μ-loop Inv-outer μ-outer
-advance-requires c κs = (c .before .before .before .before .before .before .before .before .before .before .before .before .before .before .before .before .before .before .before .before .before .before .before .before .before .before .before .before .before .before .before .before .before .before .before .pre .1 .0, (fit-of _ _ _ _ _ _ (c .before .before .before .before .before .before .before .before .before .before .before .before .before .before .before .before .before .before .before .before .before .before .before .before .before .before .before .before .before .before .before .before .before .before .before .pre .1 .1) (safe-spent _ _ _ _ (all-safe (c .before .before .before .before .before .before .before .before .before .before .before .before .before .before))), room-then _ _ _ (all-safe (c .before .before .before .before .before .before .before .before .before .before .before .before .before .before) .out-long ∙ out-same (c .before .before .before .before .before .before .before .before .before .before .before .before .before .before .before .before .before .before)) (c .before .before .before .if3 .left)))
+advance-requires c κs = (c .before .before .before .before .before .before .before .before .before .before .before .before .before .before .before .before .before .before .before .before .before .before .before .before .before .before .before .before .before .before .before .before .before .before .before .before .pre .1 .0, (fit-of _ _ _ _ _ _ (c .before .before .before .before .before .before .before .before .before .before .before .before .before .before .before .before .before .before .before .before .before .before .before .before .before .before .before .before .before .before .before .before .before .before .before .before .pre .1 .1 .0) (safe-spent _ _ _ _ (all-safe (c .before .before .before .before .before .before .before .before .before .before .before .before .before .before))), room-then _ _ _ (all-safe (c .before .before .before .before .before .before .before .before .before .before .before .before .before .before) .out-long ∙ out-same (c .before .before .before .before .before .before .before .before .before .before .before .before .before .before .before .before .before .before)) (c .before .before .before .if3 .left)))
 
 add-k : tie.Need-add-k Inv-loop μ-loop Inv-outer μ-outer
 add-k c = omega (arith, c .before .before .before .before .before .before .before .before .before .before .before .before .before .before .before .before .before .before .before .before .loop-test .taken, c .before .before .before .before .before .before .before .before .before .before .before .before .before .before .before .before .before .before .before .before .before .before .before .leg-at .ok)
@@ -118,7 +119,7 @@ loop-again c =
     )
 
 add-seg : tie.Need-add-seg Inv-loop μ-loop Inv-outer μ-outer
-add-seg c = omega (arith, c .before .before .before .before .outer-test .taken, c .before .before .before .before .before .before .before .before .before .before .before .before .before .before .before .before .before .before .before .before .before .before .good)
+add-seg c = omega (arith, c .before .before .before .before .outer-test .taken, c .before .before .before .before .before .before .before .before .before .before .before .before .before .before .before .before .before .before .before .before .before .before .before .good)
 
 outer-less : tie.Need-outer-less Inv-loop μ-loop Inv-outer μ-outer
 outer-less c = omega (arith, c .before .before .before .before .outer-test .taken)

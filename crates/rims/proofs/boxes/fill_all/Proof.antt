@@ -20,7 +20,7 @@ fill-boxes-requires-2 c κs = let s = c .before .before .before .before .before 
     let p = s .pre in
     let t = c .before .before .before .before .before .before .before .fill-thresholds .ensures in
     let b = c .before .before .before .fill-boxes .ensures in
-    (p .0, (second-rim (s .args .n) (p .1 .1) (s .args .w .now) _ _ (t .0) (b .0) (p .1 .0), ((p .1 .1, omega arith, omega arith), started-after (s .args .g) (p .0) 12544 14593 _ _ (omega arith) (b .0) (t .1))))
+    (p .0, (second-rim (s .args .n) (p .1 .1) (s .args .w .now) _ _ (t .0) (b .0) (p .1 .0), ((p .1 .1, omega arith, omega arith), started-after (s .args .g) (p .0) 12544 14848 _ _ (omega arith) (b .0) (t .1))))
 
 same-length : tie.Need-same-length
 same-length c = search needs

@@ -4,7 +4,7 @@ use native.Mathlib.Omega.{arith}
 use lib.ListN.{length, length-set}
 use lib.Ieee.{binary64, ofBits}
 use Rattle.numbers.proofs.RootLaws.{no-nan-bits}
-use Rattle.rims.proofs.BoxLaws.{rim-apart, boxed-short, head-apart, boxed-no, flag-number, boxed-yes, reach-some}
+use Rattle.rims.proofs.BoxLaws.{entries-numbers, rim-apart, boxed-short, head-apart, boxed-no, flag-number, then-blocks, boxed-yes, reach-some}
 use borrow.Author.Needs.{needs}
 use Rattle.rims.proofs.boxes.fill_boxes.Statement.{statement}
 use Rattle.rims.proofs.boxes.fill_boxes.Tie as tie
@@ -49,31 +49,38 @@ fill-entries-requires c κs = let s = c .before .before .before .before .before 
       ),
     )
 
+fill-blocks-requires : tie.Need-fill-blocks-requires
+fill-blocks-requires c κs = let s = c .before .before .before .before .before .before .before .before .before .before .before .before in
+    let k = s .pre .1 .1 .0 in
+    let e = c .before .before .before .fill-entries .ensures in
+    ((k .0, omega (arith, e .0 .long, length-set (s .args .w .now) (s .args .at) (ofBits binary64 0), c .before .before .before .before .before .before .before .before .before .before .if1 .left, k .2)), entries-numbers _ _ _ _ _ _ (e .1))
+
 add-w : tie.Need-add-w
 add-w c = search needs
 
 float-from-bits-w : tie.Need-float-from-bits-w
-float-from-bits-w c = no-nan-bits _ (omega (arith, c .before .before .before .before .reach-of .ensures .1))
+float-from-bits-w c = no-nan-bits _ (omega (arith, c .before .before .before .before .before .before .before .before .reach-of .ensures .1))
 
 mul-w-2 : tie.Need-mul-w-2
 mul-w-2 c = search needs
 
-long : (c : tie.After-slice-known3) → length (c .before .before .fill-entries .last .1 .1 .1 .1 .1 .0) ≡ length (c .before .before .before .before .before .before .before .before .before .before .before .args .w .now)
-long c = c .before .before .fill-entries .ensures .0 .long ∙ length-set (c .before .before .before .before .before .before .before .before .before .before .before .args .w .now) (c .before .before .before .before .before .before .before .before .before .before .before .args .at) (ofBits binary64 0)
+long : (c : tie.After-slice-known4) → length (c .before .before .fill-blocks .last .1 .1 .0) ≡ length (c .before .before .before .before .before .before .before .before .before .before .before .before .before .before .before .args .w .now)
+long c = c .before .before .fill-blocks .ensures .0 .long ∙ c .before .before .before .before .before .before .fill-entries .ensures .0 .long ∙ length-set (c .before .before .before .before .before .before .before .before .before .before .before .before .before .before .before .args .w .now) (c .before .before .before .before .before .before .before .before .before .before .before .before .before .before .before .args .at) (ofBits binary64 0)
 
 slice-write-w-2 : tie.Need-slice-write-w-2
-slice-write-w-2 c = omega (arith, long c, c .before .before .before .before .before .before .before .before .before .if1 .left, c .before .before .before .before .before .before .before .before .before .before .before .pre .1 .1 .0 .2)
+slice-write-w-2 c = omega (arith, long c, c .before .before .before .before .before .before .before .before .before .before .before .before .before .if1 .left, c .before .before .before .before .before .before .before .before .before .before .before .before .before .before .before .pre .1 .1 .0 .2)
 
 same-length : tie.Need-same-length
-same-length c = length-set (c .before .before .fill-entries .last .1 .1 .1 .1 .1 .0) (c .before .before .before .before .before .before .before .before .before .before .before .args .at) _ ∙ long c
+same-length c = length-set (c .before .before .fill-blocks .last .1 .1 .0) (c .before .before .before .before .before .before .before .before .before .before .before .before .before .before .before .args .at) _ ∙ long c
 
 returns-2 : tie.Need-returns-2
-returns-2 c = let s = c .before .before .before .before .before .before .before .before .before .before .before in
+returns-2 c = let s = c .before .before .before .before .before .before .before .before .before .before .before .before .before .before .before in
     let p = s .pre in
     let k = p .1 .1 .0 in
-    let l = c .before .before .before .before .before .before .before .before .before .if1 .left in
-    let e = c .before .before .fill-entries .ensures in
-    boxed-yes (s .args .g) (s .args .r) (s .args .n) (s .args .at) (s .args .w .now) (omega (arith, l, k .2)) (p .0) (omega (arith, k .1)) (k .0) l (p .1 .1 .1) _ (c .before .before .before .before .reach-of .ensures .1) _ (e .0) (e .1) (c .before .before .before .before .before .before .before .if2 .taken)
+    let l = c .before .before .before .before .before .before .before .before .before .before .before .before .before .if1 .left in
+    let b = c .before .before .fill-blocks .ensures in
+    let e = then-blocks (s .args .g) (s .args .r) (s .args .n) (s .args .at) _ _ _ _ (k .0) (c .before .before .before .before .before .before .fill-entries .ensures) (b .0) in
+    boxed-yes (s .args .g) (s .args .r) (s .args .n) (s .args .at) (s .args .w .now) (omega (arith, l, k .2)) (p .0) (omega (arith, k .1)) (k .0) l (p .1 .1 .1) _ (c .before .before .before .before .before .before .before .before .reach-of .ensures .1) _ (e .0) (e .1) (b .1) (c .before .before .before .before .before .before .before .before .before .before .before .if2 .taken)
 
 same-length-2 : tie.Need-same-length-2
 same-length-2 c = search needs
@@ -99,6 +106,7 @@ fill-boxes-spec =
     is-tame-requires
     reach-of-requires
     fill-entries-requires
+    fill-blocks-requires
     add-w
     float-from-bits-w
     mul-w-2

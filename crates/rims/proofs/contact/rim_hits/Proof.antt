@@ -15,7 +15,7 @@ shared-slice-read-t : tie.Need-shared-slice-read-t
 shared-slice-read-t c = search needs
 
 float-to-bits-t : tie.Need-float-to-bits-t
-float-to-bits-t c = c .before .before .before .before .pre .1 .1 .1 .told (c .before .if1 .taken) .number
+float-to-bits-t c = c .before .before .before .before .before .pre .1 .1 .1 .1 .told (c .before .if1 .taken) .number
 
 sub-s : tie.Need-sub-s
 sub-s c = search needs
@@ -36,21 +36,29 @@ sub-box-hits-2 : tie.Need-sub-box-hits-2
 sub-box-hits-2 c = c .before .is-roomy .ensures (c .if3 .taken) .below
 
 box-hits-requires : tie.Need-box-hits-requires
-box-hits-requires c κs = let s = c .before .before .before .before .before .before .before .before .before .before .before in
+box-hits-requires c κs = let s = c .before .before .before .before .before .before .before .before .before .before .before .before in
     let p = s .pre in
-    let t = p .1 .1 .1 .told (c .before .before .before .before .before .before .before .before .if1 .taken) in
+    let t = p .1 .1 .1 .1 .told (c .before .before .before .before .before .before .before .before .if1 .taken) in
     let f = t .firsts (c .before .before .before .before .before .before .if2 .taken) in
-    let e : word (s .args .w .now) (s .args .at) ≡ word (s .args .w .now) (s .args .at) - 1 + 1 = omega (arith, c .before .before .before .before .before .before .if2 .taken) in (
+    let x = word (s .args .w .now) (s .args .at) in
+    let e : x ≡ x - 1 + 1 = omega (arith, c .before .before .before .before .before .before .if2 .taken) in
+    let o = shifted (s .args .g) (s .args .c) _ _ _ (sym (c .before .before .before .before .before .cell-of .ensures) ∙ c .before .before .before .f .given .1) (c .before .is-roomy .ensures (c .if3 .taken)) in (
       p .0,
       (
         p .1 .0,
-        (
-          (p .1 .1 .0 .0, p .1 .1 .0 .1, c .before .before .before .before .before .before .before .before .if1 .taken),
-          (
-            (f .0, f .1, t .entries _ e),
-            shifted (s .args .g) (s .args .c) _ _ _ (sym (c .before .before .before .before .before .cell-of .ensures) ∙ c .before .before .before .f .given .1) (c .before .is-roomy .ensures (c .if3 .taken)),
-          ),
-        ),
+        record {
+          few = p .1 .1 .1 .0 .0;
+          place = p .1 .1 .1 .0 .1;
+          long = c .before .before .before .before .before .before .before .before .if1 .taken;
+          rim = p .1 .1 .0;
+          columns = f .0;
+          rows = f .1;
+          room = x - 1;
+          entries = t .entries (x - 1) e;
+          blocks = t .blocks (c .before .before .before .before .before .before .if2 .taken);
+          cell = o .0;
+          roomy = o .1;
+        },
       ),
     )
 

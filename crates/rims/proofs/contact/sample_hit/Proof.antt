@@ -21,7 +21,7 @@ shared-slice-read-e : tie.Need-shared-slice-read-e
 shared-slice-read-e c = search needs
 
 float-to-bits-e : tie.Need-float-to-bits-e
-float-to-bits-e c = let s = c .before .before .before in s .pre .1 .1 .1 .0 .2 .number (s .args .k) (s .pre .1 .1 .0 .0)
+float-to-bits-e c = let s = c .before .before .before in s .pre .1 .0 .entries .number (s .args .k) (s .pre .1 .1)
 
 is-hit-requires : tie.Need-is-hit-requires
 is-hit-requires c κs = search needs
@@ -39,8 +39,7 @@ here c = omega (arith, c .if1 .left)
 row : (c : tie.Else1) → let s = c .before .before .before .before in s .args .j + (word (s .args .w .now) (s .args .at + 1 + s .args .k) - 1) / 4096 + 1 < s .args .g .ny
 row c =
     let s = c .before .before .before .before in
-    let p = s .pre .1 .1 in
-    rows-on (s .args .g) (s .pre .0 .sides) (s .args .c) (s .args .r) (s .args .w .now) (s .args .n) (s .args .at) (s .args .s) (s .args .i) (s .args .j) (s .args .k) _ (s .pre .1 .0) (p .0 .0) (p .1 .0 .0) (p .1 .0 .1) (p .1 .0 .2) (p .1 .1 .0) (p .1 .1 .1) (here c)
+    rows-on (s .args .g) (s .pre .0 .sides) (s .args .c) (s .args .r) (s .args .w .now) (s .args .n) (s .args .at) (s .args .i) (s .args .j) (s .pre .1 .0) (s .args .k) _ (s .pre .1 .1) (here c)
 
 add-a : tie.Need-add-a
 add-a c = search needs
@@ -79,7 +78,7 @@ mul-next-from-4 : tie.Need-mul-next-from-4
 mul-next-from-4 c = omega (arith, row (c .before .before .before .before .before), c .before .before .before .before .before .before .before .before .before .pre .0 .sides .rows)
 
 shared-slice-read-next-from-3 : tie.Need-shared-slice-read-next-from-3
-shared-slice-read-next-from-3 c = omega (arith, row (c .before .before .before .before .before .before), c .before .before .before .before .before .before .before .before .before .before .pre .0 .sides .rows, c .before .before .before .before .before .before .before .before .before .before .pre .1 .1 .0 .3)
+shared-slice-read-next-from-3 c = omega (arith, row (c .before .before .before .before .before .before), c .before .before .before .before .before .before .before .before .before .before .pre .0 .sides .rows, c .before .before .before .before .before .before .before .before .before .before .pre .1 .0 .long)
 
 mul-next-from-5 : tie.Need-mul-next-from-5
 mul-next-from-5 c = search needs
@@ -100,8 +99,7 @@ next-from-requires-2 c κs = omega (arith, row (c .before .before .before .befor
 inside : (c : tie.After-next-from2) → let g = c .before .before .before .before .before .before .before .before .before .before .before .before .before .before .args .g in c .next-from2 .result * g .nx + c .before .before .before .before .before .next-from .result < g .ny * g .nx
 inside c =
     let s = c .before .before .before .before .before .before .before .before .before .before .before .before .before .before in
-    let p = s .pre .1 .1 in
-    cell-inside (s .args .g) (s .pre .0 .sides) (s .args .c) (s .args .r) (s .args .w .now) (s .args .n) (s .args .at) (s .args .s) (s .args .i) (s .args .j) (s .args .k) _ (s .pre .1 .0) (p .0 .0) (p .1 .0 .0) (p .1 .0 .1) (p .1 .0 .2) (p .1 .1 .0) (p .1 .1 .1) (here (c .before .before .before .before .before .before .before .before .before .before)) _ _ (c .before .before .before .before .before .next-from .ensures) (c .next-from2 .ensures)
+    cell-inside (s .args .g) (s .pre .0 .sides) (s .args .c) (s .args .r) (s .args .w .now) (s .args .n) (s .args .at) (s .args .i) (s .args .j) (s .pre .1 .0) (s .args .k) _ (s .pre .1 .1) (here (c .before .before .before .before .before .before .before .before .before .before)) _ _ (c .before .before .before .before .before .next-from .ensures) (c .next-from2 .ensures)
 
 mul-result : tie.Need-mul-result
 mul-result c = omega (arith, inside c, c .before .before .before .before .before .before .before .before .before .before .before .before .before .before .pre .0 .sides .cells)
@@ -114,8 +112,7 @@ shared-slice-read-result c = omega (arith, inside (c .before), c .before .before
 
 returns-2 : tie.Need-returns-2
 returns-2 c = let s = c .before .before .before .before .before .before .before .before .before .before .before .before .before .before .before in
-    let p = s .pre .1 .1 in
-    cell-stock (s .args .g) (s .pre .0 .sides) (s .args .c) (s .args .r) (s .args .w .now) (s .args .n) (s .args .at) (s .args .s) (s .args .i) (s .args .j) (s .args .k) _ (s .pre .1 .0) (p .0 .0) (p .1 .0 .0) (p .1 .0 .1) (p .1 .0 .2) (p .1 .1 .0) (p .1 .1 .1) (here (c .before .before .before .before .before .before .before .before .before .before .before)) _ _ (c .before .before .before .before .before .before .next-from .ensures) (c .before .next-from2 .ensures) (s .args .map .now)
+    cell-stock (s .args .g) (s .pre .0 .sides) (s .args .c) (s .args .r) (s .args .w .now) (s .args .n) (s .args .at) (s .args .i) (s .args .j) (s .pre .1 .0) (s .args .k) _ (s .pre .1 .1) (here (c .before .before .before .before .before .before .before .before .before .before .before)) _ _ (c .before .before .before .before .before .before .next-from .ensures) (c .before .next-from2 .ensures) (s .args .map .now)
 
 pub sample-hit-spec : {M : Type 1} → statement M
 sample-hit-spec =

@@ -20,7 +20,7 @@ loop-holds : tie.Need-loop-holds Inv-loop μ-loop
 loop-holds c = going-none _ _ _ _
 
 sample-hit-requires : tie.Need-sample-hit-requires Inv-loop μ-loop
-sample-hit-requires c κs = let p = c .before .before .before .before .pre in (p .0, (p .1 .0, (p .1 .1 .0, (p .1 .1 .1, c .loop-test .taken))))
+sample-hit-requires c κs = let p = c .before .before .before .before .pre in (p .0, (p .1 .0, (p .1 .1 .0, (p .1 .1 .1 .0, (c .loop-test .taken, p .1 .0 .all (p .1 .1 .1 .1) .at _ (c .loop-test .taken))))))
 
 add-h : tie.Need-add-h Inv-loop μ-loop
 add-h c =

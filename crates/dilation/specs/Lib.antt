@@ -1,0 +1,3 @@
+-- What the contracts of `dilation` cite.
+pub mod Window
+pub mod Parts
