@@ -68,15 +68,20 @@ fn rust(job: &Job, plain_rim: bool) -> (Plan, Spent) {
 fn proved_shares(met: &Met) -> [f64; PHASES.len()] {
     let mut shares = [0.0; PHASES.len()];
     for (at, [called, below]) in met {
-        let phase = match (called.as_str(), below.as_str()) {
-            ("distance::transform", _) => 0,
-            ("", _) if at == FRAMES[0] => 1,
-            ("tracing::curves::trace", _) => 2,
+        let phase = match (at.as_str(), called.as_str(), below.as_str()) {
             (
+                _,
                 "rounds::round::cut_next",
-                "distance::transform" | "distance::limits::limit_of" | "links::path::clear",
+                "distance::transform"
+                | "dilation::window::shade"
+                | "distance::limits::limit_of"
+                | "links::path::clear",
             ) => 4,
-            ("rounds::round::cut_next", _) => 3,
+            (_, "rounds::round::cut_next", _) => 3,
+            // Below a dilation stand words of earlier calls, which are taken for the one that was made.
+            ("dilation::window::shade", _, _) | (_, "distance::transform", _) => 0,
+            (_, "", _) if at == FRAMES[0] => 1,
+            (_, "tracing::curves::trace", _) => 2,
             _ => 5,
         };
         shares[phase] += 1.0 / met.len() as f64;
@@ -249,6 +254,15 @@ fn square(side: f64, cell: f64) -> (String, Job) {
     (format!("{side} mm, cell {cell}"), job)
 }
 
+/// A square of stock of 12 mm in the middle of a square pocket: as much to cut, on a larger map.
+fn middle(side: f64) -> (String, Job) {
+    let (_, mut job) = square(side, 0.1);
+    let (low, high) = (0.5 * side - 6.0, 0.5 * side + 6.0);
+    job.stock = Some(vec![vec![4]]);
+    job.verts.extend([v2(low, low), v2(high, low), v2(high, high), v2(low, high)]);
+    (format!("12 mm of stock in {side} mm"), job)
+}
+
 /// The machine, as it tells itself.
 fn machine() -> String {
     let read = |file: &str| std::fs::read_to_string(file).unwrap_or_default();
@@ -289,6 +303,7 @@ fn main() -> ExitCode {
     let mut jobs = time(large().into_iter().map(|(name, job)| (name.to_string(), job)).collect());
     let finer = time([0.1, 0.07, 0.05, 0.035].map(|cell| square(18.0, cell)).to_vec());
     let wider = time([9.0, 18.0, 27.0, 36.0].map(|side| square(side, 0.1)).to_vec());
+    let emptier = time([18.0, 36.0, 54.0, 90.0].map(middle).to_vec());
     jobs.push(sum(&jobs));
     println!("{}; {threads} threads.\n\n### The larger jobs\n", machine());
     print_times(&jobs);
@@ -298,5 +313,7 @@ fn main() -> ExitCode {
     print_times(&finer);
     println!("\n### Larger pockets, the same cell\n");
     print_times(&wider);
+    println!("\n### The same stock, larger maps\n");
+    print_times(&emptier);
     ExitCode::SUCCESS
 }
