@@ -40,17 +40,17 @@ module _ (s : Setup) (all : Bool) (map allowed stock near : List ℕ) (L : ℕ) 
   cell-swept j i n t h = cell-cases L n (number (s .grid .nx) i j) (valueAt s map stock i j) (wantedAt s all allowed near (number (s .grid .nx) i j)) t h
 
   -- the cells of row j from cell a on, before cell k
-  pub row-run : (j a k : ℕ) (t : Sensed) → a ≤ k → Swept L (j * s .grid .nx) t → Swept L (j * s .grid .nx + k) (loop (fieldCell s all map allowed stock near j) a k t)
+  pub row-run : (j a k : ℕ) (t : Sensed) → a ≤ k → Swept L (j * s .grid .nx + a) t → Swept L (j * s .grid .nx + k) (loop (fieldCell s all map allowed stock near j) a k t)
   row-run j a k t o h =
       loop-both (fieldCell s all map allowed stock near j) (fieldCell s all map allowed stock near j) (λ i u v. Swept L (j * s .grid .nx + i) u) a k o
       (λ i u v b c q. let z = cell-swept j i (j * s .grid .nx + i) u q in record { long = z .long; few = omega (arith, z .few) })
-      t t (record { long = h .long; few = omega (arith, h .few) })
+      t t h
 
   -- a row's cells from cell a on, before cell e
   cells-swept : (j a e : ℕ) (t : Sensed) → a ≤ s .grid .nx → e ≤ s .grid .nx → Swept L (j * s .grid .nx) t → Swept L ((j + 1) * s .grid .nx) (loop (fieldCell s all map allowed stock near j) a e t)
   cells-swept j a e t p q h =
       let k = max a e in
-      let z = row-run j a k t (omega arith) h in
+      let z = row-run j a k t (omega arith) (record { long = h .long; few = omega (arith, h .few) }) in
       let r = subst (Swept L (j * s .grid .nx + k)) (loop-end (fieldCell s all map allowed stock near j) a k e t (omega arith) (omega arith) (omega arith)) z in
       record { long = r .long; few = omega (arith, r .few, add-mul j 1 (s .grid .nx)) }
 

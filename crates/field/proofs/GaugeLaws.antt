@@ -1,8 +1,9 @@
 -- The tests by squares decide what the definition compares; a cell of the field is worked out as it says. Assumes nothing.
-use mathlib.Core.Path.{_≡_, refl, ap, _∙_}
+use mathlib.Core.Path.{_≡_, refl, sym, ap, _∙_}
 use mathlib.Core.Bool.{Bool, true, false}
 use mathlib.Core.List.{List}
-use Prim.Native.Nat.{ℕ, _+_}
+use Prim.Native.Nat.{ℕ, _+_, _-_, _≤_, _<_}
+use native.Mathlib.Omega.{arith}
 use lib.ListN.{getD, set}
 use lib.Dec.{eqb}
 use lib.Ieee.{Float, binary64, add, mul, div, lt}
@@ -12,16 +13,18 @@ use Rattle.numbers.specs.Small.{f2}
 use Rattle.distance.specs.Limits.{scaledOf, passesOf}
 use Rattle.distance.specs.Rooted.{rootedOf}
 use Rattle.distance.specs.declared.limits.Threshold.{Threshold}
-use Rattle.raster.specs.Contact.{angleOf}
+use Rattle.raster.specs.Contact.{samplesOf, hitsOf, angleOf}
 use Rattle.raster.specs.Grid.{centerOf}
 use Rattle.raster.specs.declared.contact.Contact.{Contact}
 use Rattle.numbers.specs.Circle.{tau}
+use Rattle.rims.specs.Sums.{HitsAlong}
 use Rattle.setup.specs.Place.{contactAt}
 use Rattle.setup.specs.declared.Setup.{Setup}
 use Rattle.field.specs.Field.{f3h, s0, highOf, lowOf, reachOf, value, valueOf, valueAt, wantedAt, sensed, putValue, fieldCell}
-use Rattle.field.specs.Gauge.{bound, TestOf, Gauged}
+use Rattle.field.specs.Gauge.{bound, TestOf, Gauged, KnownAt}
 use Rattle.field.specs.declared.gauge.Test.{Test}
 use Rattle.field.specs.declared.gauge.Gauge.{Gauge}
+use Rattle.field.specs.declared.gauge.Known.{Known}
 use Rattle.field.specs.declared.gauge.Value.{Value}
 
 -- ---- what a round fixes
@@ -36,6 +39,19 @@ gauged s all far deep near low full F L D N U = record {
   deep = record { is = D .is ∙ ap (bound true (s .grid .cell) true) L; limit = D .limit };
   near = N;
   full = U;
+}
+
+-- the hits that are told are those of as many samples as are taken
+pub known-hits : (s : Setup) (map : List ℕ) (i j : ℕ) (k : Known) (n : ℕ) → n ≡ samplesOf (s .samples) → k .told ≡ true → KnownAt s map i j k → k .hits ≡ hitsOf (s .grid) map (centerOf (s .grid) i j) (s .r) n
+known-hits s map i j k n e t K = K .hits t ∙ ap (hitsOf (s .grid) map (centerOf (s .grid) i j) (s .r)) (sym e)
+
+-- those that are counted along a row are told of each of its cells
+pub known-along : (s : Setup) (map : List ℕ) (from j : ℕ) (v : List ℕ) (told : Bool) → (told ≡ true → HitsAlong (s .grid) map (s .r) (samplesOf (s .samples)) from j v)
+    → (i : ℕ) (k : Known) → from ≤ i → (k .told ≡ true → (told ≡ true) × (i - from < 32) × (k .hits ≡ getD v (i - from) 0)) → KnownAt s map i j k
+known-along s map from j v told H i k l K = record {
+  hits = λ t.
+      let e = K t in
+      e .2 ∙ H (e .0) .at (i - from) (e .1) ∙ ap (λ (q : ℕ). hitsOf (s .grid) map (centerOf (s .grid) q j) (s .r) (samplesOf (s .samples))) (let z : from + (i - from) ≡ i = omega arith in z);
 }
 
 -- ---- a cell that is wanted

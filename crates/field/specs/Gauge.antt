@@ -12,8 +12,10 @@ use Rattle.numbers.specs.Circle.{tau}
 use Rattle.setup.specs.declared.Setup.{Setup}
 use Rattle.field.specs.declared.gauge.Test.{Test}
 use Rattle.field.specs.declared.gauge.Gauge.{Gauge}
+use Rattle.field.specs.declared.gauge.Known.{Known}
 use Prim.Native.Nat.{ℕ, _*_, _≤_}
-use Rattle.raster.specs.Grid.{Over}
+use Rattle.raster.specs.Grid.{Over, centerOf}
+use Rattle.raster.specs.Contact.{samplesOf, hitsOf}
 use Rattle.field.specs.Field.{highOf, lowOf, reachOf}
 
 abbrev pub bound : Bool → Float → Bool → Float → Threshold
@@ -29,6 +31,10 @@ pub record Gauged (g : Gauge) : Type 0 where
   pub deep : TestOf (bound true (g .setup .grid .cell) true (lowOf (g .setup))) (g .deep)
   pub near : TestOf (bound false (g .setup .grid .cell) false (reachOf (g .setup))) (g .near)
   pub full : g .full ≡ narrowOf tau
+
+-- the hits of the rim around the centre of cell (i, j), where they are told
+pub record KnownAt (s : Setup) (map : List ℕ) (i j : ℕ) (k : Known) : Type 0 where
+  pub hits : k .told ≡ true → k .hits ≡ hitsOf (s .grid) map (centerOf (s .grid) i j) (s .r) (samplesOf (s .samples))
 
 -- the cells' slices are lent, and the tool's tables
 pub record Sensing (s : Setup) (map allowed stock near : List ℕ) (rim : List Float) (n : ℕ) : Type 0 where

@@ -7,7 +7,7 @@ ghost use Rattle.raster.specs.Grid.{Over, centerOf};
 ghost use Rattle.setup.specs.Place.{contactAt};
 ghost use Rattle.setup.specs.Tables.{Tables};
 ghost use Rattle.field.specs.Field.{lowOf, valueAt, wantedAt};
-ghost use Rattle.field.specs.Gauge.{TestOf, Gauged};
+ghost use Rattle.field.specs.Gauge.{TestOf, Gauged, KnownAt};
 use distance::limits::Limit;
 use distance::limits::Threshold;
 use distance::limits::beyond;
@@ -34,6 +34,12 @@ pub struct Gauge {
     pub deep: Test,
     pub near: Test,
     pub full: f32,
+}
+
+// The hits of the rim around a cell's centre, where they are told already.
+pub struct Known {
+    pub told: bool,
+    pub hits: usize,
 }
 
 // The field at a cell, and whether it was sampled.
@@ -105,24 +111,54 @@ pub fn wanted(g: Gauge, allowed: &[u8], near: &[u32], k: usize) -> bool
     false
 }
 
+// Whether cell k is likely to be sampled: which cells are counted together hangs on it, and no result.
+pub fn is_sampled(g: Gauge, allowed: &[u8], stock: &[u32], near: &[u32], k: usize) -> bool
+    requires { ⌜ Gauged g ⌝ }
+    requires { ⌜ (k < length (now allowed)) × (k < length (now near)) × (k < length (now stock)) ⌝ }
+{
+    if wanted(g, allowed, near, k) {
+        let far = g.far;
+        let deep = g.deep;
+        let square = stock[k];
+        return !beyond(far.bound, far.limit, square) & !is_within(deep.bound, deep.limit, square);
+    }
+    false
+}
+
 // Contact of the tool at the centre of cell (i, j).
-fn contact_at(s: Setup, map: &[u8], rim: &[f64], i: usize, j: usize) -> Contact
+fn contact_at(s: Setup, map: &[u8], rim: &[f64], known: Known, i: usize, j: usize) -> Contact
     requires { ⌜ Over (s .grid) (length (now map)) ⌝ }
     requires { ⌜ Tables s (now rim) ⌝ }
+    requires { ⌜ KnownAt s (now map) i j known ⌝ }
     ensures { λ t. ⌜ t ≡ contactAt s (now (map .entry)) (centerOf (s .grid) i j) (s .r) ⌝ }
 {
     let n = samples_of(s.samples);
+    if known.told {
+        return Contact {
+            hits: known.hits,
+            samples: n,
+        };
+    }
     Contact {
         hits: centre_hits(s.grid, map, s.r, rim, n, i, j),
         samples: n,
     }
 }
 
-pub fn value_at(g: Gauge, map: &[u8], stock: &[u32], rim: &[f64], i: usize, j: usize) -> Value
+pub fn value_at(
+    g: Gauge,
+    map: &[u8],
+    stock: &[u32],
+    rim: &[f64],
+    known: Known,
+    i: usize,
+    j: usize,
+) -> Value
     requires { ⌜ Gauged g ⌝ }
     requires { ⌜ Over (g .setup .grid) (length (now map)) ⌝ }
     requires { ⌜ g .setup .grid .ny * g .setup .grid .nx ≤ length (now stock) ⌝ }
     requires { ⌜ Tables (g .setup) (now rim) ⌝ }
+    requires { ⌜ KnownAt (g .setup) (now map) i j known ⌝ }
     requires { ⌜ (i < g .setup .grid .nx) × (j < g .setup .grid .ny) ⌝ }
     ensures { λ v. ⌜ v ≡ valueAt (g .setup) (now (map .entry)) (now (stock .entry)) i j ⌝ }
 {
@@ -144,7 +180,7 @@ pub fn value_at(g: Gauge, map: &[u8], stock: &[u32], rim: &[f64], i: usize, j: u
             sampled: false,
         };
     }
-    let t = contact_at(s, map, rim, i, j);
+    let t = contact_at(s, map, rim, known, i, j);
     Value {
         v: numbers::narrow::narrow(raster::contact::angle_of(t)),
         sampled: true,

@@ -6,3 +6,4 @@ pub mod BoxLaws
 pub mod TileLaws
 pub mod NearLaws
 pub mod HitLaws
+pub mod SumLaws

@@ -2,3 +2,4 @@
 pub mod Offsets
 pub mod Boxes
 pub mod Tiles
+pub mod Sums

@@ -6,5 +6,6 @@ pub mod boxes;
 pub mod contact;
 pub mod hits;
 pub mod offsets;
+pub mod sums;
 pub mod thresholds;
 pub mod tiles;

@@ -9,16 +9,16 @@ use Rattle.field.proofs.gauge.value_at.Statement.{statement}
 use Rattle.field.proofs.gauge.value_at.Tie as tie
 
 mul-square : tie.Need-mul-square
-mul-square c = omega (arith, number-below (c .before .before .before .before .before .args .g .setup .grid .nx) _ _ _ _ (c .before .before .before .before .before .pre .1 .1 .1 .1 .0) (c .before .before .before .before .before .pre .1 .1 .1 .1 .1) (c .before .before .before .before .before .pre .1 .0 .sides .cells))
+mul-square c = omega (arith, number-below (c .before .before .before .before .before .args .g .setup .grid .nx) _ _ _ _ (c .before .before .before .before .before .pre .1 .1 .1 .1 .1 .0) (c .before .before .before .before .before .pre .1 .1 .1 .1 .1 .1) (c .before .before .before .before .before .pre .1 .0 .sides .cells))
 
 add-square : tie.Need-add-square
-add-square c = omega (arith, number-below (c .before .before .before .before .before .args .g .setup .grid .nx) _ _ _ _ (c .before .before .before .before .before .pre .1 .1 .1 .1 .0) (c .before .before .before .before .before .pre .1 .1 .1 .1 .1) (c .before .before .before .before .before .pre .1 .0 .sides .cells))
+add-square c = omega (arith, number-below (c .before .before .before .before .before .args .g .setup .grid .nx) _ _ _ _ (c .before .before .before .before .before .pre .1 .1 .1 .1 .1 .0) (c .before .before .before .before .before .pre .1 .1 .1 .1 .1 .1) (c .before .before .before .before .before .pre .1 .0 .sides .cells))
 
 mul-square-2 : tie.Need-mul-square-2
-mul-square-2 c = omega (arith, number-below (c .before .before .before .before .before .args .g .setup .grid .nx) _ _ _ _ (c .before .before .before .before .before .pre .1 .1 .1 .1 .0) (c .before .before .before .before .before .pre .1 .1 .1 .1 .1) (c .before .before .before .before .before .pre .1 .0 .sides .cells))
+mul-square-2 c = omega (arith, number-below (c .before .before .before .before .before .args .g .setup .grid .nx) _ _ _ _ (c .before .before .before .before .before .pre .1 .1 .1 .1 .1 .0) (c .before .before .before .before .before .pre .1 .1 .1 .1 .1 .1) (c .before .before .before .before .before .pre .1 .0 .sides .cells))
 
 shared-slice-read-square : tie.Need-shared-slice-read-square
-shared-slice-read-square c = number-below (c .before .before .before .before .before .before .args .g .setup .grid .nx) _ _ _ _ (c .before .before .before .before .before .before .pre .1 .1 .1 .1 .0) (c .before .before .before .before .before .before .pre .1 .1 .1 .1 .1) (c .before .before .before .before .before .before .pre .1 .1 .0)
+shared-slice-read-square c = number-below (c .before .before .before .before .before .before .args .g .setup .grid .nx) _ _ _ _ (c .before .before .before .before .before .before .pre .1 .1 .1 .1 .1 .0) (c .before .before .before .before .before .before .pre .1 .1 .1 .1 .1 .1) (c .before .before .before .before .before .before .pre .1 .1 .0)
 
 beyond-requires : tie.Need-beyond-requires
 beyond-requires c κs = let t = c .before .before .before .before .before .before .before .pre .0 .far in (t .limit, ap (λ (b : Threshold). b .strict) (t .is))

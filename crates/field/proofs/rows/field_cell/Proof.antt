@@ -9,7 +9,7 @@ use Rattle.field.proofs.rows.field_cell.Tie as tie
 
 -- the cell is one of n
 low : (s : tie.Start) (n : ℕ) → s .args .g .setup .grid .ny * s .args .g .setup .grid .nx ≤ n → s .args .j * s .args .g .setup .grid .nx + s .args .i < n
-low s n h = number-below (s .args .g .setup .grid .nx) (s .args .g .setup .grid .ny) (s .args .i) (s .args .j) n (s .pre .1 .1 .0) (s .pre .1 .1 .1) h
+low s n h = number-below (s .args .g .setup .grid .nx) (s .args .g .setup .grid .ny) (s .args .i) (s .args .j) n (s .pre .1 .1 .1 .0) (s .pre .1 .1 .1 .1) h
 
 mul-k : tie.Need-mul-k
 mul-k c = omega (arith, low (c .before .before .before .before .before .before) _ (c .before .before .before .before .before .before .pre .1 .0 .over .sides .cells))
@@ -21,7 +21,7 @@ wanted-requires : tie.Need-wanted-requires
 wanted-requires c κs = let s = c .before .before .before .before .before .before in let p = s .pre .1 .0 in (s .pre .0, (low s _ (p .allowed-long), low s _ (p .near-long)))
 
 value-at-requires : tie.Need-value-at-requires
-value-at-requires c κs = let s = c .before .before .before .before .before .before .before .before in let p = s .pre .1 .0 in (s .pre .0, (p .over, (p .stock-long, (p .tables, (s .pre .1 .1 .0, s .pre .1 .1 .1)))))
+value-at-requires c κs = let s = c .before .before .before .before .before .before .before .before in let p = s .pre .1 .0 in (s .pre .0, (p .over, (p .stock-long, (p .tables, (s .pre .1 .1 .0, (s .pre .1 .1 .1 .0, s .pre .1 .1 .1 .1))))))
 
 mul-f : tie.Need-mul-f
 mul-f c = omega (arith, low (c .before .before .before .before .before .before .before .before .before) _ (c .before .before .before .before .before .before .before .before .before .pre .1 .0 .over .sides .cells))
@@ -30,7 +30,7 @@ slice-write-f : tie.Need-slice-write-f
 slice-write-f c = low (c .before .before .before .before .before .before .before .before .before) _ (c .before .before .before .before .before .before .before .before .before .pre .1 .0 .field-long)
 
 add-result : tie.Need-add-result
-add-result c = omega (arith, low (c .before .before .before .before .before .before .before .before .before .before) _ (c .before .before .before .before .before .before .before .before .before .before .pre .1 .0 .over .sides .cells), c .before .before .before .before .before .before .before .before .before .before .pre .1 .1 .2)
+add-result c = omega (arith, low (c .before .before .before .before .before .before .before .before .before .before) _ (c .before .before .before .before .before .before .before .before .before .before .pre .1 .0 .over .sides .cells), c .before .before .before .before .before .before .before .before .before .before .pre .1 .1 .1 .2)
 
 same-length : tie.Need-same-length
 same-length c = search needs

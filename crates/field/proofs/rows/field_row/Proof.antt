@@ -1,13 +1,13 @@
 -- `field::rows::field_row` meets its contract. Assumes nothing.
 use mathlib.Core.Path.{refl, sym, subst}
-use Prim.Native.Nat.{_+_, _-_, _*_}
+use Prim.Native.Nat.{_+_, _-_, _*_, _<_}
 use native.Mathlib.Omega.{arith}
 use lib.ListN.{length}
-use Rattle.loops.proofs.LoopLaws.{Going, going-none, going-more, going-end}
+use Rattle.loops.proofs.LoopLaws.{Going, going-none, going-end}
 use Rattle.field.specs.Field.{sensed, fieldCell}
 use Rattle.field.specs.Gauge.{Sensing}
 use Rattle.field.proofs.FieldLaws.{Swept, row-run}
-use Rattle.field.proofs.SweepLaws.{row-is}
+use Rattle.field.proofs.SweepLaws.{going-over, row-is}
 use borrow.Author.Needs.{needs}
 use Rattle.field.proofs.rows.field_row.Statement.{statement}
 use Rattle.field.proofs.rows.field_row.Tie as tie
@@ -34,22 +34,31 @@ swept : (c : tie.At-loop Inv-loop μ-loop) → let s = c .before .before .before
 swept c =
     let s = c .before .before .before .before .before .before .before .before .before .before in
     subst (Swept (length (s .args .f .now)) (s .args .j * s .args .g .setup .grid .nx + c .loop .i)) (sym (c .loop .inv .is))
-    (row-run _ _ _ _ _ _ _ (s .args .j) _ (c .loop .i) _ (c .loop .inv .low) (record { long = refl; few = s .pre .1 .1 .1 }))
+    (row-run _ _ _ _ _ _ _ (s .args .j) _ (c .loop .i) _ (c .loop .inv .low) (record { long = refl; few = omega (arith, s .pre .1 .1 .1) }))
 
-field-cell-requires : tie.Need-field-cell-requires Inv-loop μ-loop
-field-cell-requires c κs =
-    let s = c .before .before .before .before .before .before .before .before .before .before .before .before in
-    let w = swept (c .before .before) in
-    (s .pre .0, (subst (Sensing (s .args .g .setup) (s .args .map .now) (s .args .allowed .now) (s .args .stock .now) (s .args .near .now) (s .args .rim .now)) (sym (w .long)) (s .pre .1 .0), (omega (arith, c .before .loop-test .taken, c .before .before .before .lesser .ensures), s .pre .1 .1 .0, w .few)))
+-- a run ends in the row
+ends : (c : tie.In-loop Inv-loop μ-loop) → c .before .loop .i < c .before .before .before .before .before .before .before .before .before .before .before .args .g .setup .grid .nx
+ends c = omega (arith, c .loop-test .taken, c .before .before .lesser .ensures)
 
-add-i : tie.Need-add-i Inv-loop μ-loop
-add-i c = omega arith
+add-lesser : tie.Need-add-lesser Inv-loop μ-loop
+add-lesser c = omega (arith, ends c, c .before .before .before .before .before .before .before .before .before .before .before .pre .1 .0 .over .sides .columns)
+
+lesser-requires-2 : tie.Need-lesser-requires-2 Inv-loop μ-loop
+lesser-requires-2 c κs = search needs
+
+field-run-requires : tie.Need-field-run-requires Inv-loop μ-loop
+field-run-requires c κs =
+    let s = c .before .before .before .before .before .before .before .before .before .before .before .before .before in
+    let w = swept (c .before .before .before) in
+    let e = c .before .lesser2 .ensures in
+    let t = c .before .before .loop-test .taken in
+    (s .pre .0, (subst (Sensing (s .args .g .setup) (s .args .map .now) (s .args .allowed .now) (s .args .stock .now) (s .args .near .now) (s .args .rim .now)) (sym (w .long)) (s .pre .1 .0), ((s .pre .1 .1 .0, w .few), (omega (arith, e, t), omega (arith, e, t, c .before .before .before .before .lesser .ensures)))))
 
 loop-less : tie.Need-loop-less Inv-loop μ-loop
-loop-less c = omega arith
+loop-less c = omega (arith, c .before .before .before .before .before .loop-test .taken, c .before .before .before .before .lesser2 .ensures)
 
 loop-again : tie.Need-loop-again Inv-loop μ-loop
-loop-again c = going-more _ _ _ _ _ _ _ (c .before .before .before .before .before .loop .inv) (c .before .before .before .before .loop-test .taken) (c .before .before .field-cell .ensures)
+loop-again c = let e = c .before .before .before .before .lesser2 .ensures in let t = c .before .before .before .before .before .loop-test .taken in going-over _ _ _ _ _ _ _ _ (c .before .before .before .before .before .before .loop .inv) (omega (arith, e, t)) (omega (arith, e, t)) (c .before .before .field-run .ensures)
 
 same-length : tie.Need-same-length Inv-loop μ-loop
 same-length c = swept (c .before) .long
@@ -67,8 +76,9 @@ field-row-spec =
     sub-lesser
     lesser-requires
     loop-holds
-    field-cell-requires
-    add-i
+    add-lesser
+    lesser-requires-2
+    field-run-requires
     loop-less
     loop-again
     same-length
