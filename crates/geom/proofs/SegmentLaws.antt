@@ -31,9 +31,13 @@ unfolding segSquare
 square-is p a b ab m q t r A T M Q R = rw (← A, ← T, ← M, ← Q) R
 
 -- the square of a distance has a root, or is a NaN
+pub point-square : (a b : Vec2) (x : Float) → x ≡ squareOf a b → Square x
+unfolding squareOf ofBits
+point-square a b x e = rw e (record { up = λ h. zero-under false (pos 0) _ (squares-unsigned binary64 _ _ h) })
+
 pub a-square : (p a b : Vec2) (x : Float) → x ≡ segSquare p a b → Square x
-unfolding segSquare squareOf ofBits
-a-square p a b x e = rw e (record { up = λ h. zero-under false (pos 0) _ (squares-unsigned binary64 _ _ h) })
+unfolding segSquare
+a-square p a b x e = point-square _ p x e
 
 pub edge-is : (vs : List Float) (at n : ℕ) (p : Vec2) (r : Float) (i k : ℕ) (a b : Vec2) (x : Float) (t : Bool) → a ≡ vertexOf vs (at + i) → k ≡ after n i → b ≡ vertexOf vs (at + k)
     → x ≡ segSquare p a b → t ≡ lt (rootOf x) r → t ≡ edgeWithin vs at n p r i

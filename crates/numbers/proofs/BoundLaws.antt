@@ -4,10 +4,11 @@ use mathlib.Core.Bool.{Bool, true, false, not, cond}
 use Prim.Native.Nat.{ℕ, zero, suc, _+_, _*_, _/_, _%_, _^_, _-_, _≤_, _<_}
 use native.Mathlib.Omega.{arith}
 use lib.Dec.{T, leb, eqb, ltb}
-use lib.Ieee.{Float, nan, inf, fin, binary64, odd, ofFields, ofBits, toBits, fits, mul, isNan, lt, le}
-use lib.Ieee.Bits.{ofBits-fits, toBits-ofBits, nanBits-is}
+use lib.Ieee.{Float, nan, inf, fin, binary64, odd, ofFields, ofBits, toBits, fits, mul, isNan, lt, eq, le}
+use lib.Ieee.Bits.{is-false, ofBits-fits, toBits-ofBits, nanBits-is}
 use borrow.Author.Tests.{lt-leb, ltb-true, lt-ltb, le-ltb}
 use Rattle.loops.proofs.Cases.{by-test, both}
+use Rattle.floats.proofs.OrderLaws.{le-is, le-numbers}
 use Rattle.floats.proofs.SignLaws.{unsigned}
 use Rattle.numbers.specs.Root.{rootOf}
 use Rattle.loops.specs.Loop.{Run, on, out, turn}
@@ -17,7 +18,7 @@ use Rattle.numbers.specs.declared.bound.Bound.{Bound}
 use Rattle.numbers.specs.declared.bound.Bound.the-variants.{From, Untold}
 use Rattle.numbers.proofs.WholeLaws.{nought}
 use Rattle.numbers.proofs.RootLaws.{no-nan-bits}
-use Rattle.numbers.proofs.RootMono.{root-below}
+use Rattle.numbers.proofs.RootMono.{root-below, root-defined}
 
 -- ---- a pattern below the infinity's
 
@@ -72,7 +73,7 @@ module _ (k : ℕ) (r : Float) (K : k + 1 < 2047 * 2 ^ 52) (S : separated r k �
   decided (fin b m e) f s = number-decided (fin b m e) f (s .up refl)
 
   pub decides : Decides r h
-  decides = record { held = ofBits-fits binary64 (k + 1); is = decided }
+  decides = record { held = ofBits-fits binary64 (k + 1); numbers = (le-numbers r _ (sides .1) .0, is-false _ (bits-number (k + 1) K)); is = decided }
 
 -- ---- the search
 
@@ -139,3 +140,21 @@ module _ (r : Float) (b : Bound) where
 
 pub bounds-from : (r h : Float) (b : Bound) → b ≡ From h → Bounds r b → Decides r h
 bounds-from r h b e d = subst (Bounds r) e d
+
+no-nan-reached : (x : Float) → le x nan ≡ false
+unfolding le lt eq
+no-nan-reached nan = refl
+no-nan-reached (inf b) = refl
+no-nan-reached (fin b m e) = refl
+
+-- what is not below h has a root of r or more; a NaN has none
+module _ (r h : Float) (d : Decides r h) where
+  number-reaches : (x : Float) → T (fits binary64 x) → Square x → isNan x ≡ false → le r (rootOf x) ≡ le h x
+  unfolding ofBits
+  number-reaches x f s n = le-is r (rootOf x) (d .numbers .0) (root-defined x (s .up n)) ∙ ap not (d .is x f s) ∙ sym (le-is h x (d .numbers .1) n)
+
+  pub reaches : (x : Float) → T (fits binary64 x) → Square x → le r (rootOf x) ≡ le h x
+  unfolding rootOf isNan
+  reaches nan f s = no-nan-reached r ∙ sym (no-nan-reached h)
+  reaches (inf b) f s = number-reaches (inf b) f s refl
+  reaches (fin b m e) f s = number-reaches (fin b m e) f s refl

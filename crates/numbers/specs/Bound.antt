@@ -13,9 +13,10 @@ use Rattle.numbers.specs.declared.bound.Bound.the-variants.{From, Untold
 pub record Square (x : Float) : Type 0 where
   pub up : isNan x ≡ false → le (ofBits binary64 0) x ≡ true
 
--- the root of x is below r exactly where x is below h
+-- the root of x is below r exactly where x is below h; neither is a NaN
 pub record Decides (r h : Float) : Type 0 where
   pub held : T (fits binary64 h)
+  pub numbers : (isNan r ≡ false) × (isNan h ≡ false)
   pub is : (x : Float) → T (fits binary64 x) → Square x → lt (rootOf x) r ≡ lt x h
 
 abbrev pub Bounds : Float → Bound → Type 0

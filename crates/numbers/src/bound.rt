@@ -1,8 +1,8 @@
-// Whether the root of x is below r, without the root: it rises with x, so that one comparison of x
-// with a bound decides. The bound is looked for near r * r and checked by two roots.
+// Whether the root of x is below r, or reaches it, without the root: it rises with x, so that one
+// comparison of x with a bound decides. The bound is looked for near r * r and checked by two roots.
 ghost use mathlib.Core.Path.{_≡_};
 ghost use Prim.Native.Nat.{_<_};
-ghost use lib.Ieee.{lt};
+ghost use lib.Ieee.{lt, le};
 ghost use Rattle.numbers.specs.Root.{rootOf};
 ghost use Rattle.numbers.specs.Bound.{Bounds, Square, separated, boundFrom, boundOf};
 use super::root::sqrt;
@@ -62,5 +62,17 @@ pub fn root_below(x: f64, r: f64, b: Bound) -> bool
     match b {
         Bound::From(h) => x < h,
         Bound::Untold => sqrt(x) < r,
+    }
+}
+
+// Whether the root of x is r or more; a NaN is not.
+pub fn root_reaches(x: f64, r: f64, b: Bound) -> bool
+    requires { ⌜ Square x ⌝ }
+    requires { ⌜ Bounds r b ⌝ }
+    ensures { λ t. ⌜ t ≡ le r (rootOf x) ⌝ }
+{
+    match b {
+        Bound::From(h) => x >= h,
+        Bound::Untold => sqrt(x) >= r,
     }
 }

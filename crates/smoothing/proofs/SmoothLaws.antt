@@ -111,14 +111,15 @@ module _ (closed : Bool) (n : ℕ) (W : List Float) (l : 2 * n ≤ length W) (fi
 
 -- ---- resampling
 
-module _ (cell : Float) (k n : ℕ) (w : List Float) (p q : Vec2) (d : Float) (P : p ≡ vertexOf w k) (Q : q ≡ vertexOf w (n - 1)) (D : d ≡ distanceOf q p) where
-  pub keep-far : le cell d ≡ true → (t : List Float) → t ≡ putPoint n p w → kpt t (n + 1) ≡ keepPut cell k (kpt w n)
-  unfolding keepPut
-  keep-far e t T = rw (← P, ← Q, ← D, e, ← T)
+module _ (cell : Float) (k n : ℕ) (w : List Float) (p q : Vec2) (x : Float) (r : Bool) (P : p ≡ vertexOf w k) (Q : q ≡ vertexOf w (n - 1)) (X : x ≡ squareOf q p)
+    (R : r ≡ le cell (rootOf x)) where
+  pub keep-far : r ≡ true → (t : List Float) → t ≡ putPoint n p w → kpt t (n + 1) ≡ keepPut cell k (kpt w n)
+  unfolding keepPut distanceOf
+  keep-far e t T = rw (← P, ← Q, ← X, ← R, e, ← T)
 
-  pub keep-near : le cell d ≡ false → kpt w n ≡ keepPut cell k (kpt w n)
-  unfolding keepPut
-  keep-near e = rw (← P, ← Q, ← D, e)
+  pub keep-near : r ≡ false → kpt w n ≡ keepPut cell k (kpt w n)
+  unfolding keepPut distanceOf
+  keep-near e = rw (← P, ← Q, ← X, ← R, e)
 
 pub record KeepStep (W : List Float) (k : ℕ) (s : Keeping) (out : List Vec2) : Type 0 where
   pub list : points 0 (s .kept) (s .slice) ≡ out

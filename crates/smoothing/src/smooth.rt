@@ -3,12 +3,14 @@
 ghost use mathlib.Core.Path.{_≡_};
 ghost use Prim.Native.Nat.{_+_, _*_, _≤_, _<_};
 ghost use lib.ListN.{length};
+ghost use Rattle.numbers.specs.Bound.{Bounds};
 ghost use Rattle.geom.specs.Points.{points};
 ghost use Rattle.smoothing.specs.Smooth.{meanOf, heldAt, averaged, nextOf, avg, averagePut, spaced, kpt, keepPut, samePoint, resampled, smoothOf, Begins, SmoothedRow, SmoothedAll};
 ghost use Rattle.pieces.specs.Piece.{rowAt, putRow, cutTo, endOf, Laid};
 use geom::points::put;
 use geom::region::vertex;
 use geom::vec2::Vec2;
+use numbers::bound::Bound;
 use pieces::row::Row;
 use pieces::row::put_row;
 use pieces::row::row_at;
@@ -71,15 +73,17 @@ fn average(pts: &mut [f64], n: usize, closed: bool)
     }
 }
 
-// Keeps point k as point `kept` if it is at least a cell from the one before; how many are kept.
-fn keep_at(pts: &mut [f64], cell: f64, k: usize, kept: usize) -> usize
+// Keeps point k as point `kept` if it is at least a cell from the one before; how many are kept. The
+// bound of the cell stands for a root of each point.
+fn keep_at(pts: &mut [f64], cell: f64, bound: Bound, k: usize, kept: usize) -> usize
     requires { ⌜ (0 < kept) × (kept ≤ k) ⌝ }
     requires { ⌜ 2 * k + 1 < length (now pts) ⌝ }
+    requires { ⌜ Bounds cell bound ⌝ }
     ensures { λ n. ⌜ kpt (now (pts .exit)) n ≡ keepPut cell k (kpt (now (pts .entry)) kept) ⌝ }
 {
     let p = vertex(pts, k);
     let last = vertex(pts, kept - 1);
-    if last.distance(p) >= cell {
+    if numbers::bound::root_reaches(last.square(p), cell, bound) {
         put(pts, kept, p);
         return kept + 1;
     }
@@ -87,14 +91,15 @@ fn keep_at(pts: &mut [f64], cell: f64, k: usize, kept: usize) -> usize
 }
 
 // Drops points closer than a cell to the last one kept, in place; how many are kept.
-fn keep(pts: &mut [f64], n: usize, cell: f64) -> usize
+fn keep(pts: &mut [f64], n: usize, cell: f64, bound: Bound) -> usize
     requires { ⌜ 0 < n ⌝ }
     requires { ⌜ 2 * n ≤ length (now pts) ⌝ }
+    requires { ⌜ Bounds cell bound ⌝ }
     ensures { λ r. ⌜ Begins (spaced cell (points 0 n (now (pts .entry)))) n (now (pts .entry)) r (now (pts .exit)) ⌝ }
 {
     let mut kept = 1;
     for k in 1..n {
-        kept = keep_at(pts, cell, k, kept);
+        kept = keep_at(pts, cell, bound, k, kept);
     }
     kept
 }
@@ -106,13 +111,14 @@ fn same(a: Vec2, b: Vec2) -> bool
 }
 
 // Points at least a cell apart; an open piece keeps its end.
-fn resample(pts: &mut [f64], n: usize, closed: bool, cell: f64) -> usize
+fn resample(pts: &mut [f64], n: usize, closed: bool, cell: f64, bound: Bound) -> usize
     requires { ⌜ 1 < n ⌝ }
     requires { ⌜ 2 * n ≤ length (now pts) ⌝ }
+    requires { ⌜ Bounds cell bound ⌝ }
     ensures { λ r. ⌜ Begins (resampled closed cell (points 0 n (now (pts .entry)))) n (now (pts .entry)) r (now (pts .exit)) ⌝ }
 {
     let end = vertex(pts, n - 1);
-    let kept = keep(pts, n, cell);
+    let kept = keep(pts, n, cell, bound);
     if closed {
         return kept;
     }
@@ -125,8 +131,9 @@ fn resample(pts: &mut [f64], n: usize, closed: bool, cell: f64) -> usize
 }
 
 // Smooths the n points; how many are left.
-fn smooth(pts: &mut [f64], n: usize, closed: bool, cell: f64) -> usize
+fn smooth(pts: &mut [f64], n: usize, closed: bool, cell: f64, bound: Bound) -> usize
     requires { ⌜ 2 * n ≤ length (now pts) ⌝ }
+    requires { ⌜ Bounds cell bound ⌝ }
     ensures { λ r. ⌜ Begins (smoothOf closed cell (points 0 n (now (pts .entry)))) n (now (pts .entry)) r (now (pts .exit)) ⌝ }
 {
     if n < 3 {
@@ -135,13 +142,14 @@ fn smooth(pts: &mut [f64], n: usize, closed: bool, cell: f64) -> usize
     for t in 0..3usize {
         average(pts, n, closed);
     }
-    resample(pts, n, closed, cell)
+    resample(pts, n, closed, cell, bound)
 }
 
 // Smooths the points of row k; how many are left.
-fn smooth_row(rows: &mut [u32], pts: &mut [f64], k: usize, cell: f64) -> usize
+fn smooth_row(rows: &mut [u32], pts: &mut [f64], k: usize, cell: f64, bound: Bound) -> usize
     requires { ⌜ 3 * k + 2 < length (now rows) ⌝ }
     requires { ⌜ 2 * endOf (rowAt (now rows) k) ≤ length (now pts) ⌝ }
+    requires { ⌜ Bounds cell bound ⌝ }
     ensures { λ r. ⌜ now (rows .exit) ≡ putRow k (cutTo r (rowAt (now (rows .entry)) k)) (now (rows .entry)) ⌝ }
     ensures { λ r. ⌜ SmoothedRow cell (rowAt (now (rows .entry)) k) (now (pts .entry)) r (now (pts .exit)) ⌝ }
 {
@@ -149,7 +157,7 @@ fn smooth_row(rows: &mut [u32], pts: &mut [f64], k: usize, cell: f64) -> usize
     let n = p.points as usize;
     let a = 2 * (p.first as usize);
     let e = a + 2 * n;
-    let m = smooth(&mut pts[a..e], n, p.closed, cell);
+    let m = smooth(&mut pts[a..e], n, p.closed, cell, bound);
     put_row(
         rows,
         k,
@@ -167,7 +175,8 @@ pub fn smooth_all(rows: &mut [u32], pts: &mut [f64], m: usize, cell: f64)
     requires { ⌜ Laid m (now rows) (now pts) ⌝ }
     ensures { λ _. ⌜ SmoothedAll m cell (now (rows .entry)) (now (pts .entry)) (now (rows .exit)) (now (pts .exit)) ⌝ }
 {
+    let bound = numbers::bound::bound_of(cell);
     for k in 0..m {
-        smooth_row(rows, pts, k, cell);
+        smooth_row(rows, pts, k, cell, bound);
     }
 }

@@ -18,10 +18,10 @@ same-length : tie.Need-same-length
 same-length c = search needs
 
 returns : tie.Need-returns
-returns c = resample-closed _ _ _ _ _ _ (c .before .before .before .before .before .before .before .before .pre .0) (c .before .before .before .before .before .before .before .before .pre .1) (c .before .before .before .keep .ensures) (c .if1 .taken)
+returns c = resample-closed _ _ _ _ _ _ (c .before .before .before .before .before .before .before .before .pre .0) (c .before .before .before .before .before .before .before .before .pre .1 .0) (c .before .before .before .keep .ensures) (c .if1 .taken)
 
 sub-vertex-2 : tie.Need-sub-vertex-2
-sub-vertex-2 c = kept-some (c .before .before .before .before .before .before .before .before .before .args .closed) _ _ _ _ _ (c .before .before .before .before .before .before .before .before .before .pre .0) (c .before .before .before .before .before .before .before .before .before .pre .1) (c .before .before .before .before .keep .ensures)
+sub-vertex-2 c = kept-some (c .before .before .before .before .before .before .before .before .before .args .closed) _ _ _ _ _ (c .before .before .before .before .before .before .before .before .before .pre .0) (c .before .before .before .before .before .before .before .before .before .pre .1 .0) (c .before .before .before .before .keep .ensures)
 
 vertex-requires-2 : tie.Need-vertex-requires-2
 vertex-requires-2 c κs = search needs
@@ -33,12 +33,12 @@ same-length-2 : tie.Need-same-length-2
 same-length-2 c = search needs
 
 returns-2 : tie.Need-returns-2
-returns-2 c = resample-same _ _ _ _ _ _ (c .before .before .before .before .before .before .before .before .before .before .before .before .pre .0) (c .before .before .before .before .before .before .before .before .before .before .before .before .pre .1) (c .before .before .before .before .before .before .before .keep .ensures) (c .before .before .before .before .if1 .left) _ _ _ (c .before .before .vertex2 .ensures) (c .before .before .before .before .before .before .before .before .before .vertex .ensures) (c .before .same .ensures) (c .if2 .taken)
+returns-2 c = resample-same _ _ _ _ _ _ (c .before .before .before .before .before .before .before .before .before .before .before .before .pre .0) (c .before .before .before .before .before .before .before .before .before .before .before .before .pre .1 .0) (c .before .before .before .before .before .before .before .keep .ensures) (c .before .before .before .before .if1 .left) _ _ _ (c .before .before .vertex2 .ensures) (c .before .before .before .before .before .before .before .before .before .vertex .ensures) (c .before .same .ensures) (c .if2 .taken)
 
 put-requires : tie.Need-put-requires
 put-requires c κs =
-    let room = resample-room _ _ _ _ _ _ (c .before .before .before .before .before .before .before .before .before .before .before .before .before .pre .0) (c .before .before .before .before .before .before .before .before .before .before .before .before .before .pre .1) (c .before .before .before .before .before .before .before .before .keep .ensures) (c .before .before .before .before .before .if1 .left) _ _ _ (c .before .before .before .vertex2 .ensures) (c .before .before .before .before .before .before .before .before .before .before .vertex .ensures) (c .before .before .same .ensures) (c .before .if2 .left) in
-    omega (arith, room, c .before .before .before .before .before .before .before .before .before .before .before .before .before .pre .1, c .before .before .before .before .before .before .before .before .keep .ensures .long)
+    let room = resample-room _ _ _ _ _ _ (c .before .before .before .before .before .before .before .before .before .before .before .before .before .pre .0) (c .before .before .before .before .before .before .before .before .before .before .before .before .before .pre .1 .0) (c .before .before .before .before .before .before .before .before .keep .ensures) (c .before .before .before .before .before .if1 .left) _ _ _ (c .before .before .before .vertex2 .ensures) (c .before .before .before .before .before .before .before .before .before .before .vertex .ensures) (c .before .before .same .ensures) (c .before .if2 .left) in
+    omega (arith, room, c .before .before .before .before .before .before .before .before .before .before .before .before .before .pre .1 .0, c .before .before .before .before .before .before .before .before .keep .ensures .long)
 
 add-result : tie.Need-add-result
 add-result c = search needs
@@ -47,7 +47,7 @@ same-length-3 : tie.Need-same-length-3
 same-length-3 c = search needs
 
 returns-3 : tie.Need-returns-3
-returns-3 c = resample-more _ _ _ _ _ _ (c .before .before .before .before .before .before .before .before .before .before .before .before .before .before .before .before .pre .0) (c .before .before .before .before .before .before .before .before .before .before .before .before .before .before .before .before .pre .1) (c .before .before .before .before .before .before .before .before .before .before .before .keep .ensures) (c .before .before .before .before .before .before .before .before .if1 .left) _ _ _ (c .before .before .before .before .before .before .vertex2 .ensures) (c .before .before .before .before .before .before .before .before .before .before .before .before .before .vertex .ensures) (c .before .before .before .before .before .same .ensures) (c .before .before .before .before .if2 .left) _ (c .before .before .put .ensures)
+returns-3 c = resample-more _ _ _ _ _ _ (c .before .before .before .before .before .before .before .before .before .before .before .before .before .before .before .before .pre .0) (c .before .before .before .before .before .before .before .before .before .before .before .before .before .before .before .before .pre .1 .0) (c .before .before .before .before .before .before .before .before .before .before .before .keep .ensures) (c .before .before .before .before .before .before .before .before .if1 .left) _ _ _ (c .before .before .before .before .before .before .vertex2 .ensures) (c .before .before .before .before .before .before .before .before .before .before .before .before .before .vertex .ensures) (c .before .before .before .before .before .same .ensures) (c .before .before .before .before .if2 .left) _ (c .before .before .put .ensures)
 
 pub resample-spec : {M : Type 1} → statement M
 resample-spec =

@@ -11,10 +11,10 @@ use Rattle.smoothing.proofs.smooth.smooth.Statement.{statement}
 use Rattle.smoothing.proofs.smooth.smooth.Tie as tie
 
 abbrev Inv-loop : tie.InvT-loop
-Inv-loop pts₀ n closed cell t₀ pts t = Going (λ i q. averaged closed q) 0 3 (points 0 n pts₀) (points 0 n pts) t × (length pts ≡ length pts₀)
+Inv-loop pts₀ n closed cell bound t₀ pts t = Going (λ i q. averaged closed q) 0 3 (points 0 n pts₀) (points 0 n pts) t × (length pts ≡ length pts₀)
 
 abbrev μ-loop : tie.MeasureT-loop
-μ-loop pts₀ n closed cell t₀ pts t = 3 - t
+μ-loop pts₀ n closed cell bound t₀ pts t = 3 - t
 
 returns : tie.Need-returns Inv-loop μ-loop
 returns c = smooth-few _ _ _ _ (c .if1 .taken)
@@ -23,7 +23,7 @@ loop-holds : tie.Need-loop-holds Inv-loop μ-loop
 loop-holds c = (going-none _ _ _ _, refl)
 
 average-requires : tie.Need-average-requires Inv-loop μ-loop
-average-requires c κs = (omega (arith, c .before .before .before .if1 .left), omega (arith, c .before .before .before .before .before .pre, c .before .before .loop .inv .1))
+average-requires c κs = (omega (arith, c .before .before .before .if1 .left), omega (arith, c .before .before .before .before .before .pre .0, c .before .before .loop .inv .1))
 
 add-t : tie.Need-add-t Inv-loop μ-loop
 add-t c = omega arith
@@ -38,7 +38,7 @@ loop-again c =
     (going-more _ _ _ _ _ _ _ (l .inv .0) (c .before .before .before .before .loop-test .taken) (a .is), a .long ∙ l .inv .1)
 
 resample-requires : tie.Need-resample-requires Inv-loop μ-loop
-resample-requires c κs = (omega (arith, c .before .before .before .if1 .left), omega (arith, c .before .before .before .before .before .pre, c .before .before .loop .inv .1))
+resample-requires c κs = (omega (arith, c .before .before .before .if1 .left), (omega (arith, c .before .before .before .before .before .pre .0, c .before .before .loop .inv .1), c .before .before .before .before .before .pre .1))
 
 same-length : tie.Need-same-length Inv-loop μ-loop
 same-length c = c .before .before .resample .ensures .long ∙ c .before .before .before .before .before .loop .inv .1

@@ -1,24 +1,28 @@
 -- `smoothing::smooth::smooth_all` meets its contract. Assumes nothing.
 use Prim.Native.Nat.{_-_}
 use native.Mathlib.Omega.{arith}
+use borrow.Author.Needs.{needs}
 use Rattle.smoothing.proofs.AllLaws.{SmoothedTo, smoothed-none, smoothed-more, smoothed-end}
 use Rattle.smoothing.proofs.smooth.smooth_all.Statement.{statement}
 use Rattle.smoothing.proofs.smooth.smooth_all.Tie as tie
 
 abbrev Inv-loop : tie.InvT-loop
-Inv-loop rows₀ pts₀ m cell k₀ rows pts k = SmoothedTo m cell rows₀ pts₀ k rows pts
+Inv-loop rows₀ pts₀ m cell bound k₀ rows pts k = SmoothedTo m cell rows₀ pts₀ k rows pts
 
 abbrev μ-loop : tie.MeasureT-loop
-μ-loop rows₀ pts₀ m cell k₀ rows pts k = m - k
+μ-loop rows₀ pts₀ m cell bound k₀ rows pts k = m - k
+
+bound-of-requires : tie.Need-bound-of-requires Inv-loop μ-loop
+bound-of-requires c κs = search needs
 
 loop-holds : tie.Need-loop-holds Inv-loop μ-loop
-loop-holds c = smoothed-none _ _ _ _ (c .before .before .pre)
+loop-holds c = smoothed-none _ _ _ _ (c .before .before .before .pre)
 
 smooth-row-requires : tie.Need-smooth-row-requires Inv-loop μ-loop
 smooth-row-requires c κs =
     let l = c .before .before .before .loop in
     let h = c .before .before .loop-test .taken in
-    (omega (arith, h, l .inv .laid .lent), l .inv .laid .inside (l .k) h)
+    (omega (arith, h, l .inv .laid .lent), (l .inv .laid .inside (l .k) h, c .before .before .before .before .bound-of .ensures .1))
 
 add-k : tie.Need-add-k Inv-loop μ-loop
 add-k c = omega arith
@@ -47,6 +51,7 @@ smooth-all-spec =
     (tie.spec
     Inv-loop
     μ-loop
+    bound-of-requires
     loop-holds
     smooth-row-requires
     add-k

@@ -40,14 +40,14 @@ part-smooth-start c = search needs
 part-smooth-end : tie.Need-part-smooth-end
 part-smooth-end c =
     let a = c .before .before .before .before .before .before .args in
-    let h : 2 * endOf (c .before .before .row-at .result) ≤ length (a .pts .now) = subst (λ (p : Row). 2 * endOf p ≤ length (a .pts .now)) (sym (c .before .before .row-at .ensures)) (c .before .before .before .before .before .before .pre .1) in
+    let h : 2 * endOf (c .before .before .row-at .result) ≤ length (a .pts .now) = subst (λ (p : Row). 2 * endOf p ≤ length (a .pts .now)) (sym (c .before .before .row-at .ensures)) (c .before .before .before .before .before .before .pre .1 .0) in
     omega (arith, h)
 
 smooth-requires : tie.Need-smooth-requires
 smooth-requires c κs = search needs
 
-cast-t20 : tie.Need-cast-t20
-cast-t20 c = search needs
+cast-t21 : tie.Need-cast-t21
+cast-t21 c = search needs
 
 put-row-requires : tie.Need-put-row-requires
 put-row-requires c κs = search needs
@@ -64,7 +64,7 @@ returns c =
     let p = c .before .before .before .before .before .before .before .before .before .before .row-at in
     let m = c .before .before .before .before .before .before .smooth in (
       c .before .before .put-row .ensures ∙ ap (λ (q : Row). putRow (a .k) (cutTo (m .result) q) (a .rows .now)) (p .ensures),
-      read-smoothed _ _ _ _ _ _ (p .ensures) (c .before .before .before .before .before .before .before .before .before .before .before .before .before .before .pre .1) (m .ensures),
+      read-smoothed _ _ _ _ _ _ (p .ensures) (c .before .before .before .before .before .before .before .before .before .before .before .before .before .before .pre .1 .0) (m .ensures),
     )
 
 pub smooth-row-spec : {M : Type 1} → statement M
@@ -82,7 +82,7 @@ smooth-row-spec =
     part-smooth-start
     part-smooth-end
     smooth-requires
-    cast-t20
+    cast-t21
     put-row-requires
     same-length
     same-length-2
