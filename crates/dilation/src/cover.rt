@@ -1,14 +1,9 @@
 // Which places of a row others reach: each reaches as many places as its width, by its rows to a mark.
 ghost use mathlib.Core.Path.{_≡_};
-ghost use Prim.Native.Nat.{_+_, _≤_, _<_, max};
+ghost use Prim.Native.Nat.{_+_, _≤_, _<_};
 ghost use lib.ListN.{length, getD};
 ghost use Rattle.dilation.specs.Parts.{widthAt, Covered, CoveredLeft, Wide};
-
-fn greater(a: usize, b: usize) -> usize
-    ensures { λ r. ⌜ r ≡ max a b ⌝ }
-{
-    if a < b { b } else { a }
-}
+use numbers::counts::greatest;
 
 fn wide(x: u32) -> usize
     ensures { λ r. ⌜ r ≡ x ⌝ }
@@ -34,7 +29,7 @@ fn from_left(dist: &[u32], widths: &[u32], n: usize, flags: &mut [u8])
 {
     let mut reach = 0;
     for i in 0..n {
-        reach = greater(reach, i + width_at(dist, widths, i));
+        reach = greatest(reach, i + width_at(dist, widths, i));
         flags[i] = if i < reach { 1 } else { 0 };
     }
 }
@@ -49,7 +44,7 @@ fn from_right(dist: &[u32], widths: &[u32], n: usize, flags: &mut [u8])
     let mut reach = 0;
     for t in 0..n {
         let i = n - 1 - t;
-        reach = greater(reach, t + width_at(dist, widths, i));
+        reach = greatest(reach, t + width_at(dist, widths, i));
         if t < reach {
             flags[i] = 1;
         }

@@ -7,6 +7,7 @@ ghost use Rattle.raster.specs.Grid.{Sides};
 ghost use Rattle.field.specs.Bands.{widened, Margin, Unmarked, MarkedRows, MarkedColumns, RowsOf, Around};
 use dilation::window::Window;
 use distance::limits::Limit;
+use numbers::counts::least;
 use raster::grid::Grid;
 use rims::tiles::gather_rows;
 
@@ -57,10 +58,10 @@ pub fn widen(band: Band, m: usize, ny: usize) -> Band
     requires { ⌜ (band .hi ≤ 4096) × (m ≤ 4096) ⌝ }
     ensures { λ r. ⌜ r ≡ widened ny m band ⌝ }
 {
-    let less = lesser(band.lo, m);
+    let less = least(band.lo, m);
     Band {
         lo: band.lo - less,
-        hi: lesser(band.hi + m, ny),
+        hi: least(band.hi + m, ny),
     }
 }
 

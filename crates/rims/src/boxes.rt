@@ -15,13 +15,13 @@ use super::thresholds::fill_thresholds;
 use geom::vec2::Vec2;
 use numbers::cast::float_of;
 use numbers::cast::sat_u32;
+use numbers::counts::greatest;
+use numbers::counts::least;
 use raster::grid::Grid;
 use spans::edges::below;
 use spans::edges::beyond;
 use spans::edges::end_with;
 use spans::edges::is_tame;
-use spans::runs::greatest;
-use spans::runs::least;
 
 // Whether the points of cell i, moved by v, lie in cell k or the next one of n.
 fn is_near(o: f64, cell: f64, n: usize, v: f64, i: usize, k: usize) -> bool

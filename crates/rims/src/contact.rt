@@ -13,10 +13,10 @@ use super::hits::is_hit;
 use super::hits::is_roomy;
 use super::tiles::tiles_of;
 use geom::vec2::Vec2;
+use numbers::counts::least;
 use raster::grid::Found;
 use raster::grid::Grid;
 use raster::grid::cell_of;
-use spans::runs::least;
 
 // Cell a, or the next one where q is not before x, its first number.
 fn next_from(a: usize, x: f64, q: f64) -> usize

@@ -4,10 +4,10 @@ ghost use Prim.Native.Nat.{_+_, _*_, _≤_, _<_};
 ghost use lib.ListN.{length};
 ghost use Rattle.raster.specs.Grid.{Over};
 ghost use Rattle.rims.specs.Tiles.{tilesOf, Keeps, Gathered, RowsGathered, Marked, ColumnsMarked, StockMarked, Tiled};
+use numbers::counts::least;
 use raster::grid::Grid;
 use spans::edges::end_with;
 use spans::runs::has_stock;
-use spans::runs::least;
 
 // How many tiles lie along n cells.
 pub fn tiles_of(n: usize) -> usize

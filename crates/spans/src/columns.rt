@@ -7,8 +7,8 @@ ghost use Rattle.spans.specs.Ends.{spanOf, Short, Wider, Narrower, Most,
 use super::edges::below;
 use super::edges::beyond;
 use super::edges::end_with;
-use super::runs::greatest;
-use super::runs::least;
+use numbers::counts::greatest;
+use numbers::counts::least;
 use raster::disk::Span;
 use raster::disk::cols_from;
 use raster::disk::place;

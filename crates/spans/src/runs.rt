@@ -1,7 +1,7 @@
 // Runs of a row's cells: whether one is stock; a crescent's row cleared.
 ghost use mathlib.Core.Path.{_≡_};
 ghost use mathlib.Core.Bool.{true};
-ghost use Prim.Native.Nat.{_+_, _≤_, _<_, min, max};
+ghost use Prim.Native.Nat.{_+_, _≤_, _<_, min};
 ghost use lib.ListN.{length};
 ghost use Rattle.loops.specs.Loop.{any};
 ghost use Rattle.raster.specs.Grid.{Over};
@@ -9,6 +9,8 @@ ghost use Rattle.raster.specs.Sweep.{crescentAt};
 ghost use Rattle.raster.specs.Log.{st, Ready, clearCell};
 ghost use Rattle.spans.specs.Ends.{isStock, Bare};
 use geom::vec2::Vec2;
+use numbers::counts::greatest;
+use numbers::counts::least;
 use raster::disk::crescent_row;
 use raster::grid::Grid;
 use raster::log::clear_span_logged;
@@ -30,18 +32,6 @@ pub fn has_stock(map: &[u8], from: usize, to: usize) -> bool
         }
     }
     false
-}
-
-pub fn least(a: usize, b: usize) -> usize
-    ensures { λ r. ⌜ r ≡ min a b ⌝ }
-{
-    if a < b { a } else { b }
-}
-
-pub fn greatest(a: usize, b: usize) -> usize
-    ensures { λ r. ⌜ r ≡ max a b ⌝ }
-{
-    if a < b { b } else { a }
 }
 
 // The column after the last, at most e.

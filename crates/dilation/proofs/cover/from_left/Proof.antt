@@ -23,11 +23,11 @@ loop-holds c = (lefts-none _ _ _, reach-none _, refl, omega arith)
 width-at-requires : tie.Need-width-at-requires Inv-loop μ-loop
 width-at-requires c κs = let o = c .before .before .before .before .before in let d = c .loop-test .taken in (omega (arith, o .pre .0 .long, d), o .pre .0 .told _ d)
 
-add-greater : tie.Need-add-greater Inv-loop μ-loop
-add-greater c = let o = c .before .before .before .before .before .before in let d = c .before .loop-test .taken in omega (arith, o .pre .0 .places, o .pre .0 .few _ d, c .width-at .ensures, d)
+add-greatest : tie.Need-add-greatest Inv-loop μ-loop
+add-greatest c = let o = c .before .before .before .before .before .before in let d = c .before .loop-test .taken in omega (arith, o .pre .0 .places, o .pre .0 .few _ d, c .width-at .ensures, d)
 
-greater-requires : tie.Need-greater-requires Inv-loop μ-loop
-greater-requires c κs = search needs
+greatest-requires : tie.Need-greatest-requires Inv-loop μ-loop
+greatest-requires c κs = search needs
 
 slice-write-flags : tie.Need-slice-write-flags Inv-loop μ-loop
 slice-write-flags c = search needs
@@ -45,7 +45,7 @@ loop-again c =
     let v = s .loop .inv in
     let d = c .before .before .before .loop-test .taken in
     let l : s .loop .i < length (s .loop .flags) = omega (arith, v .2, o .pre .1, d) in
-    let r = reach-more _ _ _ _ (v .1) (c .before .greater .ensures ∙ ap (λ (x : ℕ). max (s .loop .reach) (s .loop .i + x)) (c .before .before .width-at .ensures)) in
+    let r = reach-more _ _ _ _ (v .1) (c .before .greatest .ensures ∙ ap (λ (x : ℕ). max (s .loop .reach) (s .loop .i + x)) (c .before .before .width-at .ensures)) in
     let f = widthAt (o .args .dist .now) (o .args .widths .now) in
     let g : CoveredLeft f (o .args .n) (s .loop .i + 1) (set (s .loop .flags) (s .loop .i) (c .if1 .flags)) =
     ⊎-elim
@@ -68,8 +68,8 @@ from-left-spec =
     μ-loop
     loop-holds
     width-at-requires
-    add-greater
-    greater-requires
+    add-greatest
+    greatest-requires
     slice-write-flags
     add-i
     loop-less

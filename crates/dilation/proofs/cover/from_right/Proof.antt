@@ -28,11 +28,11 @@ sub-i-2 c = search needs
 width-at-requires : tie.Need-width-at-requires Inv-loop μ-loop
 width-at-requires c κs = let o = c .before .before .before .before .before in let d = c .loop-test .taken in (omega (arith, o .pre .0 .long, d), o .pre .0 .told _ (omega (arith, d)))
 
-add-greater : tie.Need-add-greater Inv-loop μ-loop
-add-greater c = let o = c .before .before .before .before .before .before in let d = c .before .loop-test .taken in omega (arith, o .pre .0 .places, o .pre .0 .few (o .args .n - 1 - c .before .before .loop .t) (omega (arith, d)), c .width-at .ensures, d)
+add-greatest : tie.Need-add-greatest Inv-loop μ-loop
+add-greatest c = let o = c .before .before .before .before .before .before in let d = c .before .loop-test .taken in omega (arith, o .pre .0 .places, o .pre .0 .few (o .args .n - 1 - c .before .before .loop .t) (omega (arith, d)), c .width-at .ensures, d)
 
-greater-requires : tie.Need-greater-requires Inv-loop μ-loop
-greater-requires c κs = search needs
+greatest-requires : tie.Need-greatest-requires Inv-loop μ-loop
+greatest-requires c κs = search needs
 
 slice-write-flags : tie.Need-slice-write-flags Inv-loop μ-loop
 slice-write-flags c = search needs
@@ -50,7 +50,7 @@ loop-again c =
     let v = s .loop .inv in
     let d = c .before .before .before .loop-test .taken in
     let l : o .args .n - 1 - s .loop .t < length (s .loop .flags) = omega (arith, v .2, o .pre .1 .0, d) in
-    let r = reach-more _ _ _ _ (v .1) (c .before .greater .ensures ∙ ap (λ (x : ℕ). max (s .loop .reach) (s .loop .t + x)) (c .before .before .width-at .ensures)) in
+    let r = reach-more _ _ _ _ (v .1) (c .before .greatest .ensures ∙ ap (λ (x : ℕ). max (s .loop .reach) (s .loop .t + x)) (c .before .before .width-at .ensures)) in
     ⊎-elim
     (λ w. (subst (CoveredRight _ _ _) (sym (w .1)) (rights-on _ _ _ _ _ d refl r _ (v .0) l (w .0 .taken)), r, ap length (w .1) ∙ length-set (s .loop .flags) (o .args .n - 1 - s .loop .t) 1 ∙ v .2, omega (arith, d)))
     (λ w. (subst (CoveredRight _ _ _) (sym (w .1)) (rights-off _ _ _ _ _ d refl r _ (v .0) (w .0 .left)), r, ap length (w .1) ∙ v .2, omega (arith, d)))
@@ -72,8 +72,8 @@ from-right-spec =
     sub-i
     sub-i-2
     width-at-requires
-    add-greater
-    greater-requires
+    add-greatest
+    greatest-requires
     slice-write-flags
     add-t
     loop-less

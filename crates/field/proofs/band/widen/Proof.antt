@@ -5,23 +5,23 @@ use borrow.Author.Needs.{needs}
 use Rattle.field.proofs.band.widen.Statement.{statement}
 use Rattle.field.proofs.band.widen.Tie as tie
 
-lesser-requires : tie.Need-lesser-requires
-lesser-requires c κs = search needs
+least-requires : tie.Need-least-requires
+least-requires c κs = search needs
 
 sub-t5 : tie.Need-sub-t5
 sub-t5 c = search needs
 
-add-lesser : tie.Need-add-lesser
-add-lesser c = search needs
+add-least : tie.Need-add-least
+add-least c = search needs
 
-lesser-requires-2 : tie.Need-lesser-requires-2
-lesser-requires-2 c κs = search needs
+least-requires-2 : tie.Need-least-requires-2
+least-requires-2 c κs = search needs
 
 returns : tie.Need-returns
 returns c =
-    let first = c .before .before .before .lesser .ensures in
-    let second = c .lesser2 .ensures in
+    let first = c .before .before .before .least .ensures in
+    let second = c .least2 .ensures in
     widened-is _ _ _ _ _ (omega (arith, first)) second
 
 pub widen-spec : {M : Type 1} → statement M
-widen-spec = tie.close (tie.spec lesser-requires sub-t5 add-lesser lesser-requires-2 returns)
+widen-spec = tie.close (tie.spec least-requires sub-t5 add-least least-requires-2 returns)
