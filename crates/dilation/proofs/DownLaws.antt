@@ -4,14 +4,15 @@ use mathlib.Core.List.{List}
 use Prim.Native.Nat.{ℕ, _+_, _-_, _*_, _≤_, _<_}
 use native.Mathlib.Omega.{arith}
 use native.Mathlib.Nat.{add-mul, mul-le-mul-right}
-use lib.ListN.{length, getD}
+use lib.ListN.{getD}
 use lib.Dec.{ltb}
 use borrow.Author.Tests.{ltb-true, ltb-false}
 use Rattle.loops.specs.Cells.{number}
 use Rattle.loops.proofs.Cases.{by-cases}
 use Rattle.distance.specs.Column.{lost, fromAbove}
+use Rattle.distance.specs.Wrote.{Wrote}
 use Rattle.dilation.specs.Window.{On}
-use Rattle.dilation.specs.Parts.{Above, Runs, Set, Down}
+use Rattle.dilation.specs.Parts.{Above, Runs, Down}
 use Rattle.dilation.specs.declared.window.Window.{Window}
 use Rattle.dilation.proofs.ColumnLaws.{above-none, above-next}
 
@@ -35,23 +36,23 @@ module _ (m : List ℕ) (nx : ℕ) (w : Window) where
         subst (λ (x : ℕ). Above m nx (w .lo) (j + 1) i (fromAbove (getD m x 0) 1 (getD run (i - w .left) 0))) e
         (above-next m nx (w .lo) i j L (omega (arith, O .rows)) (getD run (i - w .left) 0) (R .at i p q))
 
-    pub runs-more : (run′ : List ℕ) → Set f 0 (w .right - w .left) run run′ → Runs m nx w (j + 1) run′
+    pub runs-more : (run′ : List ℕ) → Wrote f 0 0 (w .right - w .left) run run′ → Runs m nx w (j + 1) run′
     runs-more run′ s = record {
       at = λ i p q.
           let e : i - w .left ≡ 0 + (i - w .left) = omega arith in
-          subst (Above m nx (w .lo) (j + 1) i) (sym (ap (λ (x : ℕ). getD run′ x 0) e ∙ s .here (i - w .left) (omega arith))) (next i p q);
+          subst (Above m nx (w .lo) (j + 1) i) (sym (ap (λ (x : ℕ). getD run′ x 0) e ∙ s .cell (i - w .left) (omega arith) (omega arith))) (next i p q);
     }
 
-    pub down-more : (u u′ : List ℕ) → Down m nx w j u → Set f (j * nx + w .left) (w .right - w .left) u u′ → Down m nx w (j + 1) u′
+    pub down-more : (u u′ : List ℕ) → Down m nx w j u → Wrote f (j * nx + w .left) 0 (w .right - w .left) u u′ → Down m nx w (j + 1) u′
     down-more u u′ d s = record {
       cell = λ i k p q a b. by-cases (ltb k j)
           (λ y.
           let z = ltb-true k j y in
           let g : (k + 1) * nx ≤ j * nx = mul-le-mul-right nx (omega arith) in
-          subst (Above m nx (w .lo) (k + 1) i) (sym (s .before (number nx i k) (omega (arith, g, add-mul k 1 nx, O .wide)))) (d .cell i k p q a z))
+          subst (Above m nx (w .lo) (k + 1) i) (sym (s .left (number nx i k) (omega (arith, g, add-mul k 1 nx, O .wide)))) (d .cell i k p q a z))
           (λ y.
           let z : j ≡ k = omega (arith, ltb-false k j y) in
           let e : j * nx + w .left + (i - w .left) ≡ number nx i j = omega arith in
           subst (λ (x : ℕ). Above m nx (w .lo) (x + 1) i (getD u′ (number nx i x) 0)) z
-          (subst (Above m nx (w .lo) (j + 1) i) (sym (ap (λ (x : ℕ). getD u′ x 0) (sym e) ∙ s .here (i - w .left) (omega arith))) (next i p q)));
+          (subst (Above m nx (w .lo) (j + 1) i) (sym (ap (λ (x : ℕ). getD u′ x 0) (sym e) ∙ s .cell (i - w .left) (omega arith) (omega arith))) (next i p q)));
     }

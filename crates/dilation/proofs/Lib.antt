@@ -1,5 +1,4 @@
 -- The laws of `dilation`, on the definitions alone.
-pub mod SetLaws
 pub mod WidthLaws
 pub mod CoverLaws
 pub mod ColumnLaws

@@ -1,6 +1,6 @@
 -- What flags and words tell of a cell of a window; its rows from the last to the first. Assumes nothing.
 use mathlib.Core.Path.{_≡_, refl, sym, ap, _∙_, subst}
-use mathlib.Core.Bool.{Bool, true, false, _||_, true≢false}
+use mathlib.Core.Bool.{true, false, _||_, true≢false}
 use mathlib.Core.List.{List}
 use Prim.Native.Nat.{ℕ, _+_, _-_, _*_, _%_, _≤_, _<_}
 use native.Mathlib.Omega.{arith}
@@ -10,10 +10,11 @@ use lib.Dec.{eqb, ltb}
 use borrow.Author.Tests.{ltb-true, ltb-false}
 use Rattle.loops.specs.Cells.{number}
 use Rattle.loops.proofs.Cases.{by-cases}
-use Rattle.distance.specs.Least.{Least, some, none, far, at, gap, square, apart}
+use Rattle.distance.specs.Least.{some, none, far, at, gap, square, apart}
 use Rattle.distance.specs.Column.{lost, fromBelow}
+use Rattle.distance.specs.Wrote.{Wrote}
 use Rattle.dilation.specs.Window.{In, On, Near, Clear, Shade, Told, Shaded}
-use Rattle.dilation.specs.Parts.{Marked, Above, Beside, Dists, Set, Down, Width, Widths, widthAt, Wide, Within, Covers, Covered, wordOf, Tells, RowTold, Bounded, Shading}
+use Rattle.dilation.specs.Parts.{Above, Beside, Dists, Down, Widths, widthAt, Wide, Covers, Covered, wordOf, RowTold, Bounded, Shading}
 use Rattle.dilation.specs.declared.window.Window.{Window}
 use Rattle.dilation.proofs.WidthLaws.{square-mono, width-few, width-zero}
 use Rattle.dilation.proofs.ColumnLaws.{beside-last, beside-next}
@@ -134,14 +135,6 @@ pub blank-covered : (n e : ℕ) (dist widths : List ℕ) → Wide n dist widths 
 blank-covered n e dist widths W B z =
     covered-none (widthAt dist widths) n (replicate 4096 0) (λ k h. width-zero e widths z (B .widths) (getD dist k 0) (W .low k h)) (λ k h. getD-replicate 4096 k 0 0 (omega (arith, W .places)))
 
-pub row-told : (f g : ℕ → ℕ) (n e base : ℕ) (a b u v : List ℕ) → Covered f n a → Covered g n b → Set (λ k. wordOf (getD a k 0) (getD b k 0) e) base n u v → RowTold f g n e base u v
-row-told f g n e base a b u v A B S = record {
-  long = S .long;
-  here = λ k h. record { deep = getD a k 0; beyond = getD b k 0; deeps = A .at k h; beyonds = B .at k h; is = S .here k h };
-  before = S .before;
-  after = S .after;
-}
-
 -- ---- the rows
 
 module _ (m : List ℕ) (nx : ℕ) (w : Window) (O : On nx w) where
@@ -150,14 +143,14 @@ module _ (m : List ℕ) (nx : ℕ) (w : Window) (O : On nx w) where
 
   module _ (j : ℕ) (L : w .lo ≤ j) (H : j < w .hi) where
     dists-next : (u dist dist′ : List ℕ) → Down m nx w (j + 1) u → Dists m nx w (j + 1) dist
-        → Set (λ k. fromBelow (getD u (j * nx + w .left + k) 0) (getD dist k 0)) 0 (w .right - w .left) dist dist′ → Dists m nx w j dist′
+        → Wrote (λ k. fromBelow (getD u (j * nx + w .left + k) 0) (getD dist k 0)) 0 0 (w .right - w .left) dist dist′ → Dists m nx w j dist′
     dists-next u dist dist′ d D S = record {
       at = λ _ i p q.
           let k = i - w .left in
           let e : k ≡ 0 + k = omega arith in
           let here : number nx i j ≡ j * nx + w .left + k = omega arith in
           let a : Above m nx (w .lo) (j + 1) i (getD u (j * nx + w .left + k) 0) = subst (λ (x : ℕ). Above m nx (w .lo) (j + 1) i (getD u x 0)) here (d .cell i j p q L (omega arith)) in
-          subst (Beside m nx (w .lo) (w .hi) i j) (sym (ap (λ (x : ℕ). getD dist′ x 0) e ∙ S .here k (omega arith)))
+          subst (Beside m nx (w .lo) (w .hi) i j) (sym (ap (λ (x : ℕ). getD dist′ x 0) e ∙ S .cell k (omega arith) (omega arith)))
           (by-cases (ltb (j + 1) (w .hi))
           (λ y. let z = ltb-true (j + 1) (w .hi) y in beside-next m nx (w .lo) i (w .hi) (O .rows) j L z _ _ a (D .at z i p q))
           (λ y. let z : j + 1 ≡ w .hi = omega (arith, ltb-false (j + 1) (w .hi) y) in beside-last m nx (w .lo) i (w .hi) (O .rows) j _ _ z (D .none z k (omega arith)) a));
@@ -173,7 +166,7 @@ module _ (m : List ℕ) (nx : ℕ) (w : Window) (O : On nx w) where
     }
 
     module _ (step phase near beyond : ℕ) (u dist dist′ : List ℕ) (S : Shading m nx w step phase near beyond (j + 1) u dist)
-        (T : Set (λ k. fromBelow (getD u (j * nx + w .left + k) 0) (getD dist k 0)) 0 (w .right - w .left) dist dist′) where
+        (T : Wrote (λ k. fromBelow (getD u (j * nx + w .left + k) 0) (getD dist k 0)) 0 0 (w .right - w .left) dist dist′) where
       pub dists-then : Dists m nx w j dist′
       dists-then = dists-next u dist dist′ (S .rest) (S .dists) T
 
@@ -189,28 +182,30 @@ module _ (m : List ℕ) (nx : ℕ) (w : Window) (O : On nx w) where
       pub shading-told : (d b v : List ℕ) → Bounded near d → Bounded beyond b
           → RowTold (widthAt dist′ d) (widthAt dist′ b) (w .right - w .left) near (j * nx + w .left) u v → Shading m nx w step phase near beyond j v dist′
       shading-told d b v N F R = record {
-        rest = down-before u v (S .rest) (R .before);
+        rest = down-before u v (S .rest) (λ k h. R .wrote .left k (omega arith));
         dists = dists-then;
         told = λ i k I h t. by-cases (ltb j k)
             (λ y.
             let z = ltb-true j k y in
             let g : (j + 1) * nx ≤ k * nx = mul-le-mul-right nx (omega arith) in
             let a = I .left in
-            subst (Shade m nx w near beyond i k) (sym (R .after (number nx i k) (omega (arith, g, add-mul j 1 nx, O .wide, O .order)))) (S .told i k I (omega arith) t))
+            let past : j * nx + w .left + (w .right - w .left) ≤ number nx i k = omega (arith, add-mul j 1 nx, O .wide, O .order) in
+            subst (Shade m nx w near beyond i k) (sym (R .wrote .right (number nx i k) past (omega arith))) (S .told i k I (omega arith) t))
             (λ y.
             let z : j ≡ k = omega (arith, ltb-false j k y) in
             let a = I .left in
             let c = I .right in
             let D = dists-then .at H in
             let here : j * nx + w .left + (i - w .left) ≡ number nx i j = omega arith in
-            let o = R .here (i - w .left) (omega arith) in
+            let x = i - w .left in
+            let X : x < w .right - w .left = omega arith in
             subst (λ (x : ℕ). Shade m nx w near beyond i x (getD v (number nx i x) 0)) z
             (subst (λ (x : ℕ). Shade m nx w near beyond i j (getD v x 0)) here
-            (shade-is m nx w i j near beyond (o .deep) (o .beyond) _ (N .few) (F .few) (o .is)
-            (near-is m nx w O j H dist′ D near d (N .widths) i a c (o .deep) (o .deeps))
-            (clear-is m nx w O j H dist′ D near d (N .widths) i a c (o .deep) (o .deeps))
-            (near-is m nx w O j H dist′ D beyond b (F .widths) i a c (o .beyond) (o .beyonds))
-            (clear-is m nx w O j H dist′ D beyond b (F .widths) i a c (o .beyond) (o .beyonds)))));
+            (shade-is m nx w i j near beyond (getD (R .below) x 0) (getD (R .within) x 0) _ (N .few) (F .few) (R .wrote .cell x (omega arith) X)
+            (near-is m nx w O j H dist′ D near d (N .widths) i a c _ (R .belows .at x X))
+            (clear-is m nx w O j H dist′ D near d (N .widths) i a c _ (R .belows .at x X))
+            (near-is m nx w O j H dist′ D beyond b (F .widths) i a c _ (R .withins .at x X))
+            (clear-is m nx w O j H dist′ D beyond b (F .widths) i a c _ (R .withins .at x X)))));
       }
 
       -- the widths at the row's places

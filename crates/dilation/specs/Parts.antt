@@ -1,5 +1,5 @@
 -- What the parts of the work promise one another; the promise of `shade` rests on Window.antt alone. Definitions only.
-use Prim.Native.Nat.{ℕ, _+_, _-_, _*_, _≤_, _<_}
+use Prim.Native.Nat.{ℕ, _+_, _-_, _≤_, _<_}
 use mathlib.Core.Path.{_≡_}
 use mathlib.Core.Bool.{true, false, cond}
 use mathlib.Core.List.{List}
@@ -8,6 +8,7 @@ use lib.Dec.{eqb}
 use Rattle.loops.specs.Cells.{number}
 use Rattle.distance.specs.Least.{Least, far, gap, square}
 use Rattle.distance.specs.Column.{lost}
+use Rattle.distance.specs.Wrote.{Wrote}
 use Rattle.dilation.specs.Window.{In, Shade, Told}
 use Rattle.dilation.specs.declared.window.Window.{Window}
 
@@ -35,13 +36,6 @@ pub record Runs (m : List ℕ) (nx : ℕ) (w : Window) (j : ℕ) (run : List ℕ
 pub record Dists (m : List ℕ) (nx : ℕ) (w : Window) (j : ℕ) (dist : List ℕ) : Type 0 where
   pub at : j < w .hi → (i : ℕ) → w .left ≤ i → i < w .right → Beside m nx (w .lo) (w .hi) i j (getD dist (i - w .left) 0)
   pub none : j ≡ w .hi → (k : ℕ) → k < w .right - w .left → getD dist k 0 ≡ lost
-
--- s becomes t: the n places from base on hold f of their number, the others what they held
-pub record Set (f : ℕ → ℕ) (base n : ℕ) (s t : List ℕ) : Type 0 where
-  pub long : length t ≡ length s
-  pub here : (k : ℕ) → k < n → getD t (base + k) 0 ≡ f k
-  pub before : (k : ℕ) → k < base → getD t k 0 ≡ getD s k 0
-  pub after : (k : ℕ) → base + n ≤ k → getD t k 0 ≡ getD s k 0
 
 -- the words of the window's rows before e hold the rows up to a mark
 pub record Down (m : List ℕ) (nx : ℕ) (w : Window) (e : ℕ) (u : List ℕ) : Type 0 where
@@ -120,20 +114,13 @@ pub record CoveredRight (f : ℕ → ℕ) (n k : ℕ) (t : List ℕ) : Type 0 wh
 unfoldable pub wordOf : ℕ → ℕ → ℕ → ℕ
 wordOf deep beyond e = cond (eqb beyond 1) (cond (eqb deep 1) 0 e) far
 
--- o is the word of place i of a row, by flags of both bounds
-pub record Tells (f g : ℕ → ℕ) (n e i o : ℕ) : Type 0 where
-  pub deep : ℕ
-  pub beyond : ℕ
-  pub deeps : Covers f n i deep
-  pub beyonds : Covers g n i beyond
-  pub is : o ≡ wordOf deep beyond e
-
--- u becomes v: the n places from base on hold these words, the others what they held
+-- u becomes v: the n places from base on hold the words of a row, by its flags of both bounds
 pub record RowTold (f g : ℕ → ℕ) (n e base : ℕ) (u v : List ℕ) : Type 0 where
-  pub long : length v ≡ length u
-  pub here : (k : ℕ) → k < n → Tells f g n e k (getD v (base + k) 0)
-  pub before : (k : ℕ) → k < base → getD v k 0 ≡ getD u k 0
-  pub after : (k : ℕ) → base + n ≤ k → getD v k 0 ≡ getD u k 0
+  pub below : List ℕ
+  pub within : List ℕ
+  pub belows : Covered f n below
+  pub withins : Covered g n within
+  pub wrote : Wrote (λ k. wordOf (getD below k 0) (getD within k 0) e) base 0 n u v
 
 -- the widths of a bound that is told by squares of cells
 pub record Bounded (e : ℕ) (t : List ℕ) : Type 0 where

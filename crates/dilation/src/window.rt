@@ -3,8 +3,9 @@ ghost use mathlib.Core.Path.{_≡_};
 ghost use mathlib.Core.Bool.{true, false};
 ghost use Prim.Native.Nat.{_+_, _-_, _*_, _≤_, _<_};
 ghost use lib.ListN.{length, getD};
+ghost use Rattle.distance.specs.Wrote.{Wrote};
 ghost use Rattle.dilation.specs.Window.{On, Shaded};
-ghost use Rattle.dilation.specs.Parts.{Set, widthAt, Wide, Bounded, RowTold, wordOf};
+ghost use Rattle.dilation.specs.Parts.{widthAt, Wide, Bounded, RowTold, wordOf};
 use super::columns::down;
 use super::columns::up_row;
 use super::cover::cover_within;
@@ -42,7 +43,7 @@ fn word(deep: u8, far: u8, e: u32) -> u32
 fn write_row(deep: &[u8], far: &[u8], e: u32, base: usize, n: usize, work: &mut [u32])
     requires { ⌜ (n ≤ length (now deep)) × (n ≤ length (now far)) ⌝ }
     requires { ⌜ base + n ≤ length (now work) ⌝ }
-    ensures { λ _. ⌜ Set (λ k. wordOf (getD (now (deep .entry)) k 0) (getD (now (far .entry)) k 0) e) base n (now (work .entry)) (now (work .exit)) ⌝ }
+    ensures { λ _. ⌜ Wrote (λ k. wordOf (getD (now (deep .entry)) k 0) (getD (now (far .entry)) k 0) e) base 0 n (now (work .entry)) (now (work .exit)) ⌝ }
 {
     for k in 0..n {
         work[base + k] = word(deep[k], far[k], e);
@@ -87,7 +88,6 @@ fn tell_row(
     requires { ⌜ (base + n ≤ length (now work)) × Bounded (b .near) (now deep) × Bounded (b .far) (now far) ⌝ }
     ensures { λ _. ⌜ (told ≡ true → RowTold (widthAt (now (dist .entry)) (now (deep .entry))) (widthAt (now (dist .entry)) (now (far .entry))) n (b .near) base (now (work .entry)) (now (work .exit))) ⌝ }
     ensures { λ _. ⌜ (told ≡ false → now (work .exit) ≡ now (work .entry)) ⌝ }
-    ensures { λ _. ⌜ length (now (work .exit)) ≡ length (now (work .entry)) ⌝ }
 {
     if told {
         shade_row(dist, deep, far, b, base, n, work);

@@ -1,5 +1,5 @@
 -- `dilation::columns::down` meets its contract. Assumes nothing.
-use mathlib.Core.Path.{_≡_, refl, sym, _∙_}
+use mathlib.Core.Path.{_≡_, refl, _∙_}
 use Prim.Native.Nat.{ℕ, _+_, _-_, _*_, _≤_, _<_}
 use native.Mathlib.Omega.{arith}
 use lib.ListN.{length, replicate, getD-replicate}
@@ -57,8 +57,9 @@ loop-again c =
     let o = l .before .before .before .before in
     let v = l .loop .inv in
     let t = c .before .before .before .before .before .before .before .loop-test .taken in
-    let e = c .before .before .before .down-row .ensures in
-    (down-more _ _ (o .args .w) (o .pre .0) (l .loop .j) (v .4) t (l .loop .run) (v .1) _ _ (v .0) (e .1), runs-more _ _ (o .args .w) (o .pre .0) (l .loop .j) (v .4) t (l .loop .run) (v .1) _ (e .0), e .1 .long ∙ v .2, e .0 .long ∙ v .3, omega (arith, v .4))
+    let u = c .before .before .before .down-row in
+    let e = u .ensures in
+    (down-more _ _ (o .args .w) (o .pre .0) (l .loop .j) (v .4) t (l .loop .run) (v .1) _ _ (v .0) (e .1), runs-more _ _ (o .args .w) (o .pre .0) (l .loop .j) (v .4) t (l .loop .run) (v .1) _ (e .0), u .kept .1 .1 .1 .1 .0 ∙ v .2, u .kept .1 .1 .1 .0 ∙ v .3, omega (arith, v .4))
 
 same-length : tie.Need-same-length Inv-loop μ-loop
 same-length c = search needs

@@ -2,22 +2,22 @@
 use mathlib.Core.Path.{_≡_, refl, _∙_, ap}
 use Prim.Native.Nat.{ℕ, _+_, _-_, _≤_}
 use native.Mathlib.Omega.{arith}
-use lib.ListN.{getD}
+use lib.ListN.{length, getD, length-set}
 use Rattle.distance.specs.Column.{fromAbove}
-use Rattle.dilation.specs.Parts.{Set}
-use Rattle.dilation.proofs.SetLaws.{set-none, set-more, set-end}
+use Rattle.distance.specs.Wrote.{Wrote}
+use Rattle.distance.proofs.WroteLaws.{wrote-none, wrote-more, wrote-end}
 use borrow.Author.Needs.{needs}
 use Rattle.dilation.proofs.columns.down_row.Statement.{statement}
 use Rattle.dilation.proofs.columns.down_row.Tie as tie
 
 abbrev Inv-loop : tie.InvT-loop
-Inv-loop marks base n run₀ work₀ i₀ run work i = Set (λ k. fromAbove (getD marks (base + k) 0) 1 (getD run₀ k 0)) 0 i run₀ run × Set (λ k. fromAbove (getD marks (base + k) 0) 1 (getD run₀ k 0)) base i work₀ work × (i ≤ n)
+Inv-loop marks base n run₀ work₀ i₀ run work i = Wrote (λ k. fromAbove (getD marks (base + k) 0) 1 (getD run₀ k 0)) 0 0 i run₀ run × Wrote (λ k. fromAbove (getD marks (base + k) 0) 1 (getD run₀ k 0)) base 0 i work₀ work × (i ≤ n) × (length run ≡ length run₀) × (length work ≡ length work₀)
 
 abbrev μ-loop : tie.MeasureT-loop
 μ-loop marks base n run₀ work₀ i₀ run work i = n - i
 
 loop-holds : tie.Need-loop-holds Inv-loop μ-loop
-loop-holds c = (set-none _ _ _, set-none _ _ _, omega arith)
+loop-holds c = (wrote-none _ _ _ _, wrote-none _ _ _ _, omega arith, refl, refl)
 
 add-from-above : tie.Need-add-from-above Inv-loop μ-loop
 add-from-above c = search needs
@@ -61,8 +61,13 @@ loop-again c =
     let o = s .before .before .before .before in
     let i = s .loop .inv in
     let d = c .before .before .before .loop-test .taken in
-    let e = c .from-above .ensures ∙ ap (λ (x : ℕ). fromAbove (getD (o .args .marks .now) (o .args .base + s .loop .i) 0) 1 x) (i .0 .after (s .loop .i) (omega arith)) in
-    (set-more _ _ _ _ _ _ _ (i .0) (let z : s .loop .i ≡ 0 + s .loop .i = omega arith in z) (omega (arith, o .pre .1 .1, d)) e, set-more _ _ _ _ _ _ _ (i .1) refl (omega (arith, o .pre .1 .0, d)) e, omega (arith, d))
+    let e = c .from-above .ensures ∙ ap (λ (x : ℕ). fromAbove (getD (o .args .marks .now) (o .args .base + s .loop .i) 0) 1 x) (i .0 .right (s .loop .i) (omega arith) (omega arith)) in (
+      wrote-more _ _ _ _ _ (s .loop .i) _ _ (i .0) (omega arith) (omega arith) (omega (arith, o .pre .1 .1, d, i .3)) e,
+      wrote-more _ _ _ _ _ _ _ _ (i .1) refl (omega arith) (omega (arith, o .pre .1 .0, d, i .4)) e,
+      omega (arith, d),
+      length-set (s .loop .run) (s .loop .i) _ ∙ i .3,
+      length-set (s .loop .work) (o .args .base + s .loop .i) _ ∙ i .4,
+    )
 
 same-length : tie.Need-same-length Inv-loop μ-loop
 same-length c = search needs
@@ -73,8 +78,8 @@ same-length-2 c = search needs
 returns : tie.Need-returns Inv-loop μ-loop
 returns c =
     let i = c .before .loop .inv in
-    let e : c .before .loop .i ≡ c .before .before .before .before .before .args .n = omega (arith, c .loop-test .left, i .2) in
-    (set-end _ _ _ _ _ _ (i .0) e, set-end _ _ _ _ _ _ (i .1) e)
+    let l = c .loop-test .left in
+    (wrote-end _ _ _ _ _ _ _ (i .0) l (omega (arith, i .2)), wrote-end _ _ _ _ _ _ _ (i .1) l (omega (arith, i .2)))
 
 pub down-row-spec : {M : Type 1} → statement M
 down-row-spec =

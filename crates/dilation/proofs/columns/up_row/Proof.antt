@@ -2,22 +2,22 @@
 use mathlib.Core.Path.{_≡_, refl, _∙_, ap}
 use Prim.Native.Nat.{ℕ, _+_, _-_, _≤_}
 use native.Mathlib.Omega.{arith}
-use lib.ListN.{getD}
+use lib.ListN.{length, getD, length-set}
 use Rattle.distance.specs.Column.{fromBelow}
-use Rattle.dilation.specs.Parts.{Set}
-use Rattle.dilation.proofs.SetLaws.{set-none, set-more, set-end}
+use Rattle.distance.specs.Wrote.{Wrote}
+use Rattle.distance.proofs.WroteLaws.{wrote-none, wrote-more, wrote-end}
 use borrow.Author.Needs.{needs}
 use Rattle.dilation.proofs.columns.up_row.Statement.{statement}
 use Rattle.dilation.proofs.columns.up_row.Tie as tie
 
 abbrev Inv-loop : tie.InvT-loop
-Inv-loop work base n run₀ i₀ run i = Set (λ k. fromBelow (getD work (base + k) 0) (getD run₀ k 0)) 0 i run₀ run × (i ≤ n)
+Inv-loop work base n run₀ i₀ run i = Wrote (λ k. fromBelow (getD work (base + k) 0) (getD run₀ k 0)) 0 0 i run₀ run × (i ≤ n) × (length run ≡ length run₀)
 
 abbrev μ-loop : tie.MeasureT-loop
 μ-loop work base n run₀ i₀ run i = n - i
 
 loop-holds : tie.Need-loop-holds Inv-loop μ-loop
-loop-holds c = (set-none _ _ _, omega arith)
+loop-holds c = (wrote-none _ _ _ _, omega arith, refl)
 
 add-from-below : tie.Need-add-from-below Inv-loop μ-loop
 add-from-below c = search needs
@@ -55,8 +55,8 @@ loop-again c =
     let o = s .before .before .before in
     let i = s .loop .inv in
     let d = c .before .before .before .loop-test .taken in
-    let e = c .from-below .ensures ∙ ap (λ (x : ℕ). fromBelow (getD (o .args .work .now) (o .args .base + s .loop .i) 0) x) (i .0 .after (s .loop .i) (omega arith)) in
-    (set-more _ _ _ _ _ _ _ (i .0) (let z : s .loop .i ≡ 0 + s .loop .i = omega arith in z) (omega (arith, o .pre .1, d)) e, omega (arith, d))
+    let e = c .from-below .ensures ∙ ap (λ (x : ℕ). fromBelow (getD (o .args .work .now) (o .args .base + s .loop .i) 0) x) (i .0 .right (s .loop .i) (omega arith) (omega arith)) in
+    (wrote-more _ _ _ _ _ (s .loop .i) _ _ (i .0) (omega arith) (omega arith) (omega (arith, o .pre .1, d, i .2)) e, omega (arith, d), length-set (s .loop .run) (s .loop .i) _ ∙ i .2)
 
 same-length : tie.Need-same-length Inv-loop μ-loop
 same-length c = search needs
@@ -64,7 +64,7 @@ same-length c = search needs
 returns : tie.Need-returns Inv-loop μ-loop
 returns c =
     let i = c .before .loop .inv in
-    set-end _ _ _ _ _ _ (i .0) (let z = c .loop-test .left in omega (arith, i .1))
+    wrote-end _ _ _ _ _ _ _ (i .0) (c .loop-test .left) (omega (arith, i .1))
 
 pub up-row-spec : {M : Type 1} → statement M
 up-row-spec =

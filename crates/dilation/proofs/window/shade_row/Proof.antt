@@ -1,6 +1,6 @@
 -- `dilation::window::shade_row` meets its contract. Assumes nothing.
 use native.Mathlib.Omega.{arith}
-use Rattle.dilation.proofs.ShadeLaws.{blank-covered, row-told}
+use Rattle.dilation.proofs.ShadeLaws.{blank-covered}
 use borrow.Author.Needs.{needs}
 use Rattle.dilation.proofs.window.shade_row.Statement.{statement}
 use Rattle.dilation.proofs.window.shade_row.Tie as tie
@@ -34,7 +34,13 @@ same-length : tie.Need-same-length
 same-length c = search needs
 
 returns : tie.Need-returns
-returns c = row-told _ _ _ _ _ _ _ _ _ (c .before .before .before .before .before .before .before .before .before .before .cover-within .ensures .1) (c .before .before .before .before .before .before .before .cover-within2 .ensures .1) (c .before .before .write-row .ensures)
+returns c = record {
+  below = _;
+  within = _;
+  belows = c .before .before .before .before .before .before .before .before .before .before .cover-within .ensures .1;
+  withins = c .before .before .before .before .before .before .before .cover-within2 .ensures .1;
+  wrote = c .before .before .write-row .ensures;
+}
 
 pub shade-row-spec : {M : Type 1} → statement M
 shade-row-spec =

@@ -82,8 +82,9 @@ tell-row-requires c κs =
     let o = l .before .before .before .before .before .before .before .before .before .before in
     let p = o .pre in
     let t = c .before .before .before .before .before .before .before .before .if1 .taken in
-    let e = c .before .before .before .before .up-row .ensures in
-    (wide-then _ _ (o .args .w) (p .0) (l .loop .j - 1) (omega arith) (omega (arith, l .loop .inv .3)) _ _ _ _ _ _ _ (told l t) e _ _ (p .1 .1 .1 .0) (e .long ∙ l .loop .inv .2), (wide-then _ _ (o .args .w) (p .0) (l .loop .j - 1) (omega arith) (omega (arith, l .loop .inv .3)) _ _ _ _ _ _ _ (told l t) e _ _ (p .1 .1 .1 .1) (e .long ∙ l .loop .inv .2), (omega (arith, row l t, p .0 .wide, p .0 .order, p .1 .0 .1, long l), p .1 .1 .1 .0, p .1 .1 .1 .1)))
+    let u = c .before .before .before .before .up-row in
+    let e = u .ensures in
+    (wide-then _ _ (o .args .w) (p .0) (l .loop .j - 1) (omega arith) (omega (arith, l .loop .inv .3)) _ _ _ _ _ _ _ (told l t) e _ _ (p .1 .1 .1 .0) (u .kept .1 .1 .1 .0 ∙ l .loop .inv .2), (wide-then _ _ (o .args .w) (p .0) (l .loop .j - 1) (omega arith) (omega (arith, l .loop .inv .3)) _ _ _ _ _ _ _ (told l t) e _ _ (p .1 .1 .1 .1) (u .kept .1 .1 .1 .0 ∙ l .loop .inv .2), (omega (arith, row l t, p .0 .wide, p .0 .order, p .1 .0 .1, long l), p .1 .1 .1 .0, p .1 .1 .1 .1)))
 
 loop-less : tie.Need-loop-less Inv-loop μ-loop
 loop-less c = search needs
@@ -94,8 +95,10 @@ loop-again c =
     let o = l .before .before .before .before .before .before .before .before .before .before in
     let p = o .pre in
     let t = c .before .before .before .before .before .before .before .before .before .before .before .if1 .taken in
-    let e = c .before .before .before .before .before .before .before .up-row .ensures in
-    let q = c .before .before .tell-row .ensures in
+    let u = c .before .before .before .before .before .before .before .up-row in
+    let e = u .ensures in
+    let r = c .before .before .tell-row in
+    let q = r .ensures in
     let near = o .args .b .near in
     let beyond = o .args .b .far in
     let j = l .loop .j - 1 in
@@ -104,9 +107,9 @@ loop-again c =
     let hi : j < o .args .w .hi = omega (arith, l .loop .inv .3) in (
       by-cases (eqb (j % o .args .step) (o .args .phase) || eqb (j + 1) (o .args .w .hi))
           (λ y. shading-told _ _ (o .args .w) (p .0) j lo hi _ _ near beyond _ _ _ s e _ _ _ (p .1 .1 .1 .0) (p .1 .1 .1 .1) (q .0 y))
-          (λ y. shading-skip _ _ (o .args .w) (p .0) j lo hi _ _ near beyond _ _ _ s e _ (q .1 .0 y) y),
-      q .1 .1 ∙ l .loop .inv .1,
-      e .long ∙ l .loop .inv .2,
+          (λ y. shading-skip _ _ (o .args .w) (p .0) j lo hi _ _ near beyond _ _ _ s e _ (q .1 y) y),
+      r .kept .1 .1 .1 .1 .1 .1 .0 ∙ l .loop .inv .1,
+      u .kept .1 .1 .1 .0 ∙ l .loop .inv .2,
       omega (arith, l .loop .inv .3),
     )
 

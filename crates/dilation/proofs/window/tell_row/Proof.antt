@@ -12,10 +12,10 @@ same-length : tie.Need-same-length
 same-length c = search needs
 
 returns : tie.Need-returns
-returns c = let e = c .before .before .shade-row .ensures in (λ _. e, (λ h. absurd (true≢false (sym (c .before .before .before .before .if1 .taken) ∙ h)), e .long))
+returns c = let e = c .before .before .shade-row .ensures in (λ _. e, λ h. absurd (true≢false (sym (c .before .before .before .before .if1 .taken) ∙ h)))
 
 returns-2 : tie.Need-returns-2
-returns-2 c = (λ h. absurd (true≢false (sym h ∙ c .if1 .left)), (λ _. refl, refl))
+returns-2 c = (λ h. absurd (true≢false (sym h ∙ c .if1 .left)), λ _. refl)
 
 pub tell-row-spec : {M : Type 1} → statement M
 tell-row-spec = tie.close (tie.spec shade-row-requires same-length returns returns-2)

@@ -70,7 +70,7 @@ loop-again c =
       low = omega arith;
       high = omega arith;
       long = length-set (l .work) (c .before .before .args .base + l .x) _ ∙ l .inv .long;
-      wrote = wrote-more _ _ _ _ _ _ _ (l .inv .wrote) (omega arith) (omega arith) refl;
+      wrote = wrote-more _ _ _ _ _ _ _ _ (l .inv .wrote) refl (omega arith) (omega arith) refl;
     }
 
 same-length : tie.Need-same-length Inv-loop μ-loop

@@ -44,7 +44,7 @@ loop-again c =
     record {
       high = omega arith;
       long = length-set (l .work) (c .before .before .args .start + l .k) _ ∙ l .inv .long;
-      wrote = wrote-more _ _ _ _ _ _ _ (l .inv .wrote) (omega arith) (omega arith) refl;
+      wrote = wrote-more _ _ _ _ _ _ _ _ (l .inv .wrote) refl (omega arith) (omega arith) refl;
     }
 
 same-length : tie.Need-same-length Inv-loop μ-loop
