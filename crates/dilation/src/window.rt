@@ -9,6 +9,8 @@ ghost use Rattle.dilation.specs.Parts.{widthAt, Wide, Bounded, RowTold, 
 use super::columns::down;
 use super::columns::up_row;
 use super::cover::cover_within;
+use distance::FAR;
+use distance::columns::NONE;
 
 // The rows from lo on, before hi, and of these the columns from left on, before right.
 pub struct Window {
@@ -23,9 +25,6 @@ pub struct Bounds {
     pub near: u32,
     pub far: u32,
 }
-
-// Beyond every bound.
-const FAR: u32 = 4294967295;
 
 // What stands for a cell's square: below both bounds, between them, beyond the farther one.
 fn word(deep: u8, far: u8, e: u32) -> u32
@@ -113,7 +112,7 @@ fn shade_rows(
     ensures { λ _. ⌜ Shaded (now (marks .entry)) nx w step phase (b .near) (b .far) (now (work .entry)) (now (work .exit)) ⌝ }
 {
     down(marks, nx, w, work);
-    let mut dist = [4096u32; 4096];
+    let mut dist = [NONE; 4096];
     let n = w.right - w.left;
     let mut j = w.hi;
     while w.lo < j {
