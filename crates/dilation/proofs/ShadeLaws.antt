@@ -13,7 +13,7 @@ use Rattle.loops.proofs.Cases.{by-cases}
 use Rattle.distance.specs.Least.{some, none, far, at, gap, square, apart}
 use Rattle.distance.specs.Column.{lost, fromBelow}
 use Rattle.distance.specs.Wrote.{Wrote}
-use Rattle.dilation.specs.Window.{In, On, Near, Clear, Shade, Told, Shaded}
+use Rattle.dilation.specs.Window.{most, In, On, Near, Clear, Shade, Told, Shaded}
 use Rattle.dilation.specs.Parts.{Above, Beside, Dists, Down, Widths, widthAt, Wide, Covers, Covered, wordOf, RowTold, Bounded, Shading}
 use Rattle.dilation.specs.declared.window.Window.{Window}
 use Rattle.dilation.proofs.WidthLaws.{square-mono, width-few, width-zero}
@@ -95,7 +95,7 @@ lesser m nx w i j a b n c = omega (arith, n .less, c .least (n .column) (n .row)
 above-zero : (m : List ℕ) (nx : ℕ) (w : Window) (i j b : ℕ) → Near m nx w i j b → 0 < b
 above-zero m nx w i j b n = omega (arith, n .less)
 
-module _ (m : List ℕ) (nx : ℕ) (w : Window) (i j near beyond a b o : ℕ) (A : near ≤ 67108864) (B : beyond ≤ 67108864) (E : o ≡ wordOf a b near)
+module _ (m : List ℕ) (nx : ℕ) (w : Window) (i j near beyond a b o : ℕ) (A : near ≤ most) (B : beyond ≤ most) (E : o ≡ wordOf a b near)
     (NY : eqb a 1 ≡ true → Near m nx w i j near) (NN : eqb a 1 ≡ false → Clear m nx w i j near) (FY : eqb b 1 ≡ true → Near m nx w i j beyond) (FN : eqb b 1 ≡ false → Clear m nx w i j beyond) where
   word-deep : eqb b 1 ≡ true → eqb a 1 ≡ true → o ≡ 0
   unfolding wordOf

@@ -11,6 +11,7 @@ use borrow.Author.Tests.{ltb-true, ltb-false}
 use Rattle.loops.proofs.Cases.{by-cases}
 use Rattle.distance.specs.Least.{square}
 use Rattle.distance.specs.Column.{lost}
+use Rattle.dilation.specs.Window.{most}
 use Rattle.dilation.specs.Parts.{Width, WidthsTo, Widths}
 
 pub square-mono : (a b : ℕ) → a ≤ b → square a ≤ square b
@@ -44,7 +45,7 @@ module _ (e : ℕ) where
   }
 
 -- no width of a bound of that size is above 8192
-pub width-few : (e : ℕ) (t : List ℕ) → e ≤ 67108864 → Widths e t → (d : ℕ) → d ≤ lost → getD t d 0 ≤ 8192
+pub width-few : (e : ℕ) (t : List ℕ) → e ≤ most → Widths e t → (d : ℕ) → d ≤ lost → getD t d 0 ≤ 8192
 width-few e t h W d b = by-cases (ltb d lost)
     (λ y. by-cases (ltb 8192 (getD t d 0))
     (λ x. absurd (let z : ⊥ = omega (arith, W .at d (ltb-true d lost y) .below 8192 (ltb-true 8192 (getD t d 0) x)) in z))

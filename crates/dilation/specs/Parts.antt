@@ -9,7 +9,7 @@ use Rattle.loops.specs.Cells.{number}
 use Rattle.distance.specs.Least.{Least, far, gap, square}
 use Rattle.distance.specs.Column.{lost}
 use Rattle.distance.specs.Wrote.{Wrote}
-use Rattle.dilation.specs.Window.{In, Shade, Told}
+use Rattle.dilation.specs.Window.{most, In, Shade, Told}
 use Rattle.dilation.specs.declared.window.Window.{Window}
 
 -- ---- a column
@@ -124,7 +124,7 @@ pub record RowTold (f g : ℕ → ℕ) (n e base : ℕ) (u v : List ℕ) : Type 
 
 -- the widths of a bound that is told by squares of cells
 pub record Bounded (e : ℕ) (t : List ℕ) : Type 0 where
-  pub few : e ≤ 67108864
+  pub few : e ≤ most
   pub long : 4097 ≤ length t
   pub widths : Widths e t
 

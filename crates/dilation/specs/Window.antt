@@ -1,5 +1,5 @@
 -- Which cells of a window a mark of it is nearer to than a bound, by squares of whole numbers. Definitions only.
-use Prim.Native.Nat.{ℕ, _+_, _*_, _%_, _≤_, _<_}
+use Prim.Native.Nat.{ℕ, _+_, _%_, _≤_, _<_}
 use mathlib.Core.Path.{_≡_}
 use mathlib.Core.Bool.{true, _||_}
 use mathlib.Core.List.{List}
@@ -8,7 +8,17 @@ use lib.Dec.{eqb}
 use Rattle.loops.specs.Cells.{number}
 use Rattle.distance.specs.Least.{at, apart}
 use Rattle.distance.specs.Least as Least
+use Rattle.distance.specs.declared.limits.Limit.{Limit}
 use Rattle.dilation.specs.declared.window.Window.{Window}
+
+-- the greatest bound that is taken, the square of 8192
+abbrev pub most : ℕ
+most = 67108864
+
+-- the limit is told, and as a bound it is taken
+pub record Takes (l : Limit) : Type 0 where
+  pub told : l .told ≡ true
+  pub few : l .below ≤ most
 
 -- cell (i, j) is one of the window's
 pub record In (w : Window) (i j : ℕ) : Type 0 where

@@ -3,11 +3,12 @@ ghost use mathlib.Core.Path.{_≡_};
 ghost use Prim.Native.Nat.{_+_, _≤_, _<_};
 ghost use lib.ListN.{length};
 ghost use Rattle.distance.specs.Least.{square};
+ghost use Rattle.dilation.specs.Window.{most};
 ghost use Rattle.dilation.specs.Parts.{Width, Widths};
 
 // A number whose square is at least e.
 fn root_above(e: u32) -> u32
-    requires { ⌜ e ≤ 67108864 ⌝ }
+    requires { ⌜ e ≤ most ⌝ }
     ensures { λ w. ⌜ (w ≤ 8192) × (e ≤ square w) ⌝ }
 {
     for w in 0..8192 {
@@ -36,7 +37,7 @@ fn narrowed(e: u32, d: u32, w: u32) -> u32
 
 // For each number of rows below 4096 how many columns a mark so many rows away reaches; 0 at 4096, where there is no mark.
 pub fn fill(e: u32, widths: &mut [u32])
-    requires { ⌜ e ≤ 67108864 ⌝ }
+    requires { ⌜ e ≤ most ⌝ }
     requires { ⌜ 4097 ≤ length (now widths) ⌝ }
     ensures { λ _. ⌜ (length (now (widths .exit)) ≡ length (now (widths .entry))) × Widths e (now (widths .exit)) ⌝ }
 {

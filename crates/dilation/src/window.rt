@@ -4,13 +4,14 @@ ghost use mathlib.Core.Bool.{true, false};
 ghost use Prim.Native.Nat.{_+_, _-_, _*_, _≤_, _<_};
 ghost use lib.ListN.{length, getD};
 ghost use Rattle.distance.specs.Wrote.{Wrote};
-ghost use Rattle.dilation.specs.Window.{On, Shaded};
+ghost use Rattle.dilation.specs.Window.{most, Takes, On, Shaded};
 ghost use Rattle.dilation.specs.Parts.{widthAt, Wide, Bounded, RowTold, wordOf};
 use super::columns::down;
 use super::columns::up_row;
 use super::cover::cover_within;
 use distance::FAR;
 use distance::columns::NONE;
+use distance::limits::Limit;
 
 // The rows from lo on, before hi, and of these the columns from left on, before right.
 pub struct Window {
@@ -24,6 +25,16 @@ pub struct Window {
 pub struct Bounds {
     pub near: u32,
     pub far: u32,
+}
+
+// The greatest bound that is taken: a width is 8192 at most.
+const MOST: u32 = 67108864;
+
+// Whether the limit is told, and taken as a bound.
+pub fn takes(l: Limit) -> bool
+    ensures { λ t. ⌜ (t ≡ true → Takes l) ⌝ }
+{
+    l.told & (l.below <= MOST)
 }
 
 // What stands for a cell's square: below both bounds, between them, beyond the farther one.
@@ -138,7 +149,7 @@ pub fn shade(
     requires { ⌜ On nx w ⌝ }
     requires { ⌜ (w .hi * nx ≤ length (now marks)) × (w .hi * nx ≤ length (now work)) ⌝ }
     requires { ⌜ 0 < step ⌝ }
-    requires { ⌜ (b .near ≤ 67108864) × (b .far ≤ 67108864) ⌝ }
+    requires { ⌜ (b .near ≤ most) × (b .far ≤ most) ⌝ }
     ensures { λ _. ⌜ Shaded (now (marks .entry)) nx w step phase (b .near) (b .far) (now (work .entry)) (now (work .exit)) ⌝ }
 {
     let mut deep = [0u32; 4097];

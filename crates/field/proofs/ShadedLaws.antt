@@ -8,14 +8,14 @@ use native.Mathlib.Omega.{arith}
 use lib.ListN.{length, getD, take, drop}
 use lib.Dec.{eqb, ltb}
 use lib.Ieee.{binary64, mul, lt, le}
-use borrow.Author.Tests.{ltb-true, ltb-false, lt-ltb, le-ltb, lt-leb, eqb-true, eq-eqb}
+use borrow.Author.Tests.{ltb-true, ltb-false, lt-ltb, le-ltb, lt-leb, eq-eqb}
 use borrow.Rule.Slice.PartMut.{putMid}
 use Rattle.loops.specs.Cells.{number}
 use Rattle.loops.specs.Regions.{Fits}
 use Rattle.loops.specs.Frame.{Only}
 use Rattle.loops.proofs.Cases.{by-cases}
 use Rattle.loops.proofs.FrameLaws.{back-only, only-wider}
-use Rattle.dilation.specs.Window.{In, On, Near, Clear, Shade, Told, Shaded}
+use Rattle.dilation.specs.Window.{Takes, In, On, Near, Clear, Shade, Told, Shaded}
 use Rattle.dilation.specs.declared.window.Window.{Window}
 use Rattle.distance.specs.Least.{far, at, gap, apart}
 use Rattle.distance.specs.Limits.{scaledOf, passesOf}
@@ -25,12 +25,11 @@ use Rattle.distance.specs.declared.limits.Threshold.{Threshold}
 use Rattle.distance.proofs.LimitLaws.{beyond-is}
 use Rattle.distance.proofs.NearLaws.{nearest-far, nearest-at, nearest-over, square-of}
 use Rattle.raster.specs.Grid.{Sides}
-use Rattle.setup.specs.Layout.{run, putRun}
+use Rattle.setup.specs.Layout.{run}
 use Rattle.setup.specs.Place.{cellsOf}
-use Rattle.setup.specs.declared.Setup.{Setup}
 use Rattle.setup.proofs.LayoutLaws.{run-put}
 use Rattle.setup.proofs.PartLaws.{part-is, part-long, back-is}
-use Rattle.field.specs.Bands.{between, Inside, RowsOf, widened, Margin, rowsOf, columnsOf, windowOf, WantedIn}
+use Rattle.field.specs.Bands.{Inside, RowsOf, widened, Margin, rowsOf, columnsOf, windowOf, WantedIn}
 use Rattle.field.specs.Field.{highOf, lowOf, reachOf, valueOf, valueAt}
 use Rattle.field.specs.Gauge.{Gauged}
 use Rattle.field.specs.Squares.{Stocked, Neared}
@@ -129,7 +128,7 @@ told-all : (w : Window) (j : ℕ) → Told 1 0 w j
 told-all w j = rw (eq-eqb (j % 1) 0 (let z : j % 1 ≡ 0 = omega arith in z)) refl
 
 module _ (g : Gauge) (h : Gauged g) (w : Window) (R : RowsOf (g .setup .grid .ny) (rowsOf w)) (C : RowsOf (g .setup .grid .nx) (columnsOf w)) (b u : List ℕ) (U : 5 * cellsOf (g .setup) ≤ length u)
-    (FT : g .far .limit .told ≡ true) (FF : g .far .limit .below ≤ 67108864) (DT : g .deep .limit .told ≡ true)
+    (far-takes : Takes (g .far .limit)) (deep-takes : Takes (g .deep .limit))
     (m k : ℕ) (M : Margin (g .far .limit) (g .setup .grid .ny) m) (K : Margin (g .far .limit) (g .setup .grid .nx) k)
     (rows cols : Band) (P : rows ≡ widened (g .setup .grid .ny) m (rowsOf w)) (Q : cols ≡ widened (g .setup .grid .nx) k (columnsOf w)) where
   abbrev nx : ℕ
@@ -205,17 +204,17 @@ module _ (g : Gauge) (h : Gauged g) (w : Window) (R : RowsOf (g .setup .grid .ny
           ∙ by-cases (ltb o (g .far .limit .below))
           (λ y.
           let z = ltb-true o (g .far .limit .below) y in
-          value-in g h FT DT map t (squaresOf 1 map nx ny) i j (S .fits) (rw whole sqf) z (rw whole (in-both map nx ny (windowOf rows cols) (cols-on .high) (rows-on .high) i j _ _ o bound S out z))
+          value-in g h (far-takes .told) (deep-takes .told) map t (squaresOf 1 map nx ny) i j (S .fits) (rw whole sqf) z (rw whole (in-both map nx ny (windowOf rows cols) (cols-on .high) (rows-on .high) i j _ _ o bound S out z))
           (rw whole (deep-both map nx ny (windowOf rows cols) (cols-on .high) (rows-on .high) i j _ _ o bound S out z)))
           (λ y.
           let z = ltb-false o (g .far .limit .below) y in
-          value-out g h FT DT map t (squaresOf 1 map nx ny) i j (S .fits) (rw whole sqf) z (rw whole (out-both map nx ny (windowOf rows cols) (cols-on .high) (rows-on .high) i j _ _ o bound S out z)));
+          value-out g h (far-takes .told) (deep-takes .told) map t (squaresOf 1 map nx ny) i j (S .fits) (rw whole sqf) z (rw whole (out-both map nx ny (windowOf rows cols) (cols-on .high) (rows-on .high) i j _ _ o bound S out z)));
     }
 
 -- ---- to cells that were cut
 
 module _ (g : Gauge) (h : Gauged g) (w : Window) (b u : List ℕ) (W : WantedIn (g .setup) false (run 4 (cellsOf (g .setup)) b) w) (U : 5 * cellsOf (g .setup) ≤ length u)
-    (NT : g .near .limit .told ≡ true) (NF : g .near .limit .below ≤ 67108864) (n a c : ℕ) (N : n ≡ cellsOf (g .setup)) (A : a ≡ 4 * n) (C : c ≡ 1 * n) (t : List ℕ)
+    (near-takes : Takes (g .near .limit)) (n a c : ℕ) (N : n ≡ cellsOf (g .setup)) (A : a ≡ 4 * n) (C : c ≡ 1 * n) (t : List ℕ)
     (T : Shaded (take (a + n - a) (drop a b)) (g .setup .grid .nx) w 1 0 0 (g .near .limit .below) (take (c + n - c) (drop c u)) t) where
   near-long : length t ≡ n
   near-long = T .long ∙ part-long 1 n c (c + n) u C refl (omega arith)
@@ -247,8 +246,8 @@ module _ (g : Gauge) (h : Gauged g) (w : Window) (b u : List ℕ) (W : WantedIn 
         (λ y. y ∙ sym (lt-ltb sq e (in-both dirty nx ny w (W .columns .high) (W .rows .high) i j 0 e o bound S out (ltb-true o e y))))
         (λ y. y ∙ sym (le-ltb sq e (out-both dirty nx ny w (W .columns .high) (W .rows .high) i j 0 e o bound S out (ltb-false o e y)))) in
         ap (λ (z : List ℕ). le (rootedOf (getD z (number nx i j) 0)) (reachOf (g .setup))) near-words-are
-        ∙ near-is g h o (S .fits) NT
+        ∙ near-is g h o (S .fits) (near-takes .told)
         ∙ same
-        ∙ sym (near-is g h sq (nearest-far dirty nx (at i j) ny) NT)
+        ∙ sym (near-is g h sq (nearest-far dirty nx (at i j) ny) (near-takes .told))
         ∙ ap (λ (z : ℕ). le (rootedOf z) (reachOf (g .setup))) (sym whole);
   }

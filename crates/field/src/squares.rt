@@ -1,9 +1,10 @@
 // The squares that a round of the field goes by, or words that stand for them: of the distance to stock and to cells that
 // were cut. Each map is gone through in the window alone that matters; where a limit is not told, in its rows.
 ghost use mathlib.Core.Path.{_≡_};
-ghost use mathlib.Core.Bool.{true, false};
+ghost use mathlib.Core.Bool.{false};
 ghost use Prim.Native.Nat.{_+_, _*_, _≤_, _<_};
 ghost use lib.ListN.{length};
+ghost use Rattle.dilation.specs.Window.{Takes};
 ghost use Rattle.raster.specs.Grid.{Sides};
 ghost use Rattle.setup.specs.Layout.{dirtyIn};
 ghost use Rattle.setup.specs.Place.{cellsOf};
@@ -18,7 +19,7 @@ use super::gauge::Gauge;
 use dilation::window::Bounds;
 use dilation::window::Window;
 use dilation::window::shade;
-use distance::limits::Limit;
+use dilation::window::takes;
 use raster::grid::Grid;
 use setup::layout;
 
@@ -97,21 +98,14 @@ fn near_squares(g: Grid, band: Band, b: &[u8], u: &mut [u32])
     squares(g, band, b, a, u, c);
 }
 
-// Whether squares can be told by the limit.
-fn tells(l: Limit) -> bool
-    ensures { λ t. ⌜ (t ≡ true → (l .told ≡ true) × (l .below ≤ 67108864)) ⌝ }
-{
-    l.told & (l.below <= 67108864)
-}
-
 // What stands for the squares to stock in a window, by the stock around it.
 fn shade_stock(g: Gauge, w: Window, b: &[u8], u: &mut [u32])
     requires { ⌜ Gauged g ⌝ }
     requires { ⌜ Sides (g .setup .grid) ⌝ }
     requires { ⌜ RowsOf (g .setup .grid .ny) (rowsOf w) × RowsOf (g .setup .grid .nx) (columnsOf w) ⌝ }
     requires { ⌜ (cellsOf (g .setup) ≤ length (now b)) × (5 * cellsOf (g .setup) ≤ length (now u)) ⌝ }
-    requires { ⌜ (g .far .limit .told ≡ true) × (g .far .limit .below ≤ 67108864) ⌝ }
-    requires { ⌜ (g .deep .limit .told ≡ true) × (g .deep .limit .below ≤ 67108864) ⌝ }
+    requires { ⌜ Takes (g .far .limit) ⌝ }
+    requires { ⌜ Takes (g .deep .limit) ⌝ }
     ensures { λ _. ⌜ Stocked (g .setup) w (now (b .entry)) (now (u .entry)) (now (u .exit)) ⌝ }
 {
     let grid = g.setup.grid;
@@ -149,8 +143,8 @@ fn stock_words(g: Gauge, w: Window, b: &[u8], u: &mut [u32])
     requires { ⌜ (cellsOf (g .setup) ≤ length (now b)) × (5 * cellsOf (g .setup) ≤ length (now u)) ⌝ }
     ensures { λ _. ⌜ Stocked (g .setup) w (now (b .entry)) (now (u .entry)) (now (u .exit)) ⌝ }
 {
-    if tells(g.far.limit) {
-        if tells(g.deep.limit) {
+    if takes(g.far.limit) {
+        if takes(g.deep.limit) {
             shade_stock(g, w, b, u);
             return;
         }
@@ -164,7 +158,7 @@ fn shade_near(g: Gauge, w: Window, b: &[u8], u: &mut [u32])
     requires { ⌜ Sides (g .setup .grid) ⌝ }
     requires { ⌜ WantedIn (g .setup) false (dirtyIn (cellsOf (g .setup)) (now b)) w ⌝ }
     requires { ⌜ (5 * cellsOf (g .setup) ≤ length (now b)) × (5 * cellsOf (g .setup) ≤ length (now u)) ⌝ }
-    requires { ⌜ (g .near .limit .told ≡ true) × (g .near .limit .below ≤ 67108864) ⌝ }
+    requires { ⌜ Takes (g .near .limit) ⌝ }
     ensures { λ _. ⌜ Neared (g .setup) w (now (b .entry)) (now (u .entry)) (now (u .exit)) ⌝ }
 {
     let grid = g.setup.grid;
@@ -188,7 +182,7 @@ fn near_words(g: Gauge, w: Window, b: &[u8], u: &mut [u32])
     requires { ⌜ (5 * cellsOf (g .setup) ≤ length (now b)) × (5 * cellsOf (g .setup) ≤ length (now u)) ⌝ }
     ensures { λ _. ⌜ Neared (g .setup) w (now (b .entry)) (now (u .entry)) (now (u .exit)) ⌝ }
 {
-    if tells(g.near.limit) {
+    if takes(g.near.limit) {
         shade_near(g, w, b, u);
         return;
     }

@@ -1,6 +1,5 @@
 -- What tells the nodes of a lattice: the squares of the distance to stock, and the words of a dilation. Assumes nothing.
 use mathlib.Core.Path.{_≡_, refl, sym, ap, _∙_}
-use mathlib.Core.Bool.{true}
 use mathlib.Core.List.{List}
 use Prim.Native.Nat.{ℕ, _+_, _-_, _*_, _/_, _%_, _≤_, _<_}
 use native.Mathlib.Omega.{arith}
@@ -9,7 +8,6 @@ use lib.Dec.{eqb, ltb, leb}
 use lib.ListN.{length, getD}
 use lib.Ieee.{lt}
 use borrow.Author.Tests.{eq-eqb, ltb-true, ltb-false, leb-true, leb-false, le-leb, lt-leb}
-use Rattle.loops.specs.Cells.{number}
 use Rattle.loops.proofs.Cases.{by-cases, or-left, or-right}
 use Rattle.numbers.specs.Small.{f1}
 use Rattle.distance.specs.Least.{far, at, MapSides}
@@ -20,7 +18,7 @@ use Rattle.distance.specs.declared.limits.Limit.{Limit}
 use Rattle.distance.proofs.NearestLaws.{room, listed-at, transform-at, transform-long}
 use Rattle.distance.proofs.NearLaws.{square-of, nearest-far, nearest-at, nearest-over}
 use Rattle.distance.proofs.LimitLaws.{beyond-is}
-use Rattle.dilation.specs.Window.{Shade, Told, Shaded}
+use Rattle.dilation.specs.Window.{Takes, Shade, Told, Shaded}
 use Rattle.dilation.specs.declared.window.Window.{Window}
 use Rattle.raster.specs.Grid.{numbered}
 use Rattle.links.specs.declared.lattice.Lattice.{Lattice}
@@ -77,15 +75,15 @@ module _ (l : Lattice) (L : Laid l) (m : List ℕ) where
       or-left _ _ (eq-eqb _ _ (ap (λ (n : ℕ). n % k) (sym i) ∙ mul-add-mod-self-right a k (k / 2) ∙ mod-eq-of-lt z)))
       (λ e. let i = along-last a k ny (a * k + k / 2) refl (ltb-false (a * k + k / 2) (ny - 1) e) in or-right (eqb (along a k ny % k) (k / 2)) _ (eq-eqb (along a k ny + 1) ny (omega (arith, i))))
 
-  module _ (limit : Limit) (Q : Limited l limit) (T : limit .told ≡ true) (B : limit .below ≤ 67108864) where
+  module _ (limit : Limit) (Q : Limited l limit) (K : Takes limit) where
     -- two squares on the same side of the limit
     side-same : (o d : ℕ) → o ≤ far → d ≤ far → (o < limit .below → d < limit .below) → (limit .below ≤ o → limit .below ≤ d) → lt (l .margin) (rootedOf o) ≡ lt (l .margin) (rootedOf d)
     unfolding scaledOf
     side-same o d O D f g =
         let b = limit .below in
-        sym (beyond-is _ f1 _ _ _ b o Q T refl O)
+        sym (beyond-is _ f1 _ _ _ b o Q (K .told) refl O)
         ∙ by-cases (leb b o) (λ e. e ∙ sym (le-leb b d (g (leb-true b o e)))) (λ e. e ∙ sym (lt-leb b d (f (leb-false b o e))))
-        ∙ beyond-is _ f1 _ _ _ b d Q T refl D
+        ∙ beyond-is _ f1 _ _ _ b d Q (K .told) refl D
 
     -- a word and the square of its cell
     shade-tells : (i j o : ℕ) → Shade m nx whole 0 (limit .below) i j o → lt (l .margin) (rootedOf o) ≡ lt (l .margin) (rootedOf (nearest 1 m nx (at i j) ny))

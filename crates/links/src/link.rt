@@ -1,10 +1,10 @@
 // A way of straight feeds through cleared space: straight, or over the lattice.
 ghost use mathlib.Core.Path.{_≡_};
-ghost use mathlib.Core.Bool.{true};
 ghost use Prim.Native.Nat.{_*_, _≤_};
 ghost use lib.ListN.{length};
 ghost use Rattle.loops.specs.Frame.{Only};
 ghost use Rattle.distance.specs.Nearest.{squaresOf};
+ghost use Rattle.dilation.specs.Window.{Takes};
 ghost use Rattle.raster.specs.Grid.{Over};
 ghost use Rattle.rims.specs.Tiles.{Tiled};
 ghost use Rattle.setup.specs.Layout.{beforeFrom, costFrom, pathEnd, pathFrom, segmentsFrom};
@@ -46,7 +46,7 @@ pub fn work_of(r: Route) -> usize
 fn shade_nodes(l: Lattice, limit: Limit, map: &[u8], work: &mut [u32])
     requires { ⌜ Laid l ⌝ }
     requires { ⌜ Limited l limit ⌝ }
-    requires { ⌜ (limit .told ≡ true) × (limit .below ≤ 67108864) ⌝ }
+    requires { ⌜ Takes limit ⌝ }
     requires { ⌜ Over (l .grid) (length (now map)) ⌝ }
     requires { ⌜ cells l ≤ length (now work) ⌝ }
     ensures { λ _. ⌜ Telling l (squaresOf 1 (now (map .entry)) (l .grid .nx) (l .grid .ny)) (now (work .exit)) ⌝ }
@@ -74,7 +74,7 @@ fn tell_nodes(l: Lattice, limit: Limit, map: &[u8], work: &mut [u32])
     ensures { λ _. ⌜ Telling l (squaresOf 1 (now (map .entry)) (l .grid .nx) (l .grid .ny)) (now (work .exit)) ⌝ }
     ensures { λ _. ⌜ length (now (work .exit)) ≡ length (now (work .entry)) ⌝ }
 {
-    if limit.told & (limit.below <= 67108864) {
+    if dilation::window::takes(limit) {
         shade_nodes(l, limit, map, work);
         return;
     }

@@ -1,18 +1,17 @@
 -- `field::squares::near_words` meets its contract. Assumes nothing.
-use native.Mathlib.Omega.{arith}
 use Rattle.field.proofs.BandLaws.{cut-rows}
 use Rattle.field.proofs.SquareLaws.{neared-rows}
 use borrow.Author.Needs.{needs}
 use Rattle.field.proofs.squares.near_words.Statement.{statement}
 use Rattle.field.proofs.squares.near_words.Tie as tie
 
-tells-requires : tie.Need-tells-requires
-tells-requires c κs = search needs
+takes-requires : tie.Need-takes-requires
+takes-requires c κs = search needs
 
 shade-near-requires : tie.Need-shade-near-requires
 shade-near-requires c κs =
     let p = c .before .before .before .before .before .pre in
-    (p .0, (p .1 .0, (p .1 .1 .0 .0, (p .1 .1 .1, c .before .before .tells .ensures (c .before .if1 .taken)))))
+    (p .0, (p .1 .0, (p .1 .1 .0 .0, (p .1 .1 .1, c .before .before .takes .ensures (c .before .if1 .taken)))))
 
 same-length : tie.Need-same-length
 same-length c = search needs
@@ -35,7 +34,7 @@ pub near-words-spec : {M : Type 1} → statement M
 near-words-spec =
     tie.close
     (tie.spec
-    tells-requires
+    takes-requires
     shade-near-requires
     same-length
     returns

@@ -58,7 +58,7 @@ shade-requires c κs =
       record { wide = w .columns .high; order = w .columns .order; columns = omega (arith, w .columns .high, p .1 .0 .columns); rows = omega (arith, w .rows .high, p .1 .0 .rows) },
       (
         (omega (arith, h, n, part-long 4 _ _ _ (o .args .b .now) a refl (omega (arith, n, l .0))), omega (arith, h, n, part-long 1 _ _ _ (o .args .u .now) e refl (omega (arith, n, l .1)))),
-        (omega arith, (omega arith, f .1)),
+        (omega arith, (omega arith, f .few)),
       ),
     )
 
@@ -70,7 +70,7 @@ returns c =
     let p = c .before .before .before .before .before .before .before .before .before .before .before .before .pre in
     let l = p .1 .1 .1 .0 in
     let f = p .1 .1 .1 .1 in
-    near-shaded _ (p .0) _ _ _ (p .1 .1 .0) (l .1) (f .0) (f .1) _ _ _ (c .before .before .before .before .before .before .before .before .cells .ensures) (c .before .before .before .before .before .before .before .dirty .ensures) (c .before .before .before .before .before .before .near .ensures) _ (c .before .before .shade .ensures)
+    near-shaded _ (p .0) _ _ _ (p .1 .1 .0) (l .1) f _ _ _ (c .before .before .before .before .before .before .before .before .cells .ensures) (c .before .before .before .before .before .before .before .dirty .ensures) (c .before .before .before .before .before .before .near .ensures) _ (c .before .before .shade .ensures)
 
 pub shade-near-spec : {M : Type 1} → statement M
 shade-near-spec =

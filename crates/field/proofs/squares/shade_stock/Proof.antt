@@ -1,5 +1,4 @@
 -- `field::squares::shade_stock` meets its contract. Assumes nothing.
-use mathlib.Core.Path.{_∙_}
 use native.Mathlib.Omega.{arith}
 use native.Mathlib.Nat.{mul-le-mul-right}
 use Rattle.setup.proofs.PartLaws.{part-long}
@@ -52,10 +51,10 @@ shade-requires c κs =
     let f = p .1 .1 .1 .1 .0 in
     let d = p .1 .1 .1 .1 .1 in
     let h = mul-le-mul-right (o .args .g .setup .grid .nx) (wide-rows _ _ _ _ (c .before .before .before .widen .ensures) (w .0 .order) (w .0 .high) .high) in (
-      wide-on _ (p .0) _ (w .0) (w .1) (o .args .b .now) (o .args .u .now) (l .1) (f .0) (f .1) (d .0) _ _ (c .before .before .before .before .before .margin .ensures) (c .before .before .before .before .margin2 .ensures) _ _ (c .before .before .before .widen .ensures) (c .before .before .widen2 .ensures) (p .1 .0),
+      wide-on _ (p .0) _ (w .0) (w .1) (o .args .b .now) (o .args .u .now) (l .1) f d _ _ (c .before .before .before .before .before .margin .ensures) (c .before .before .before .before .margin2 .ensures) _ _ (c .before .before .before .widen .ensures) (c .before .before .widen2 .ensures) (p .1 .0),
       (
         (omega (arith, h, n, part-long 0 (c .before .before .before .before .before .before .before .before .cells .result) 0 (c .before .before .before .before .before .before .before .before .cells .result) (o .args .b .now) (omega arith) (omega arith) (omega (arith, n, l .0))), omega (arith, h, n, part-long 0 (c .before .before .before .before .before .before .before .before .cells .result) 0 (c .before .before .before .before .before .before .before .before .cells .result) (o .args .u .now) (omega arith) (omega arith) (omega (arith, n, l .1)))),
-        (omega arith, (d .1, f .1)),
+        (omega arith, (d .few, f .few)),
       ),
     )
 
@@ -70,7 +69,7 @@ returns c =
     let l = p .1 .1 .1 .0 in
     let f = p .1 .1 .1 .1 .0 in
     let d = p .1 .1 .1 .1 .1 in
-    stock-shaded _ (p .0) _ (w .0) (w .1) _ _ (l .1) (f .0) (f .1) (d .0) _ _ (c .before .before .before .before .before .before .before .before .margin .ensures) (c .before .before .before .before .before .before .before .margin2 .ensures) _ _ (c .before .before .before .before .before .before .widen .ensures) (c .before .before .before .before .before .widen2 .ensures) _ (c .before .before .before .before .before .before .before .before .before .before .before .cells .ensures) _ (c .before .before .shade .ensures)
+    stock-shaded _ (p .0) _ (w .0) (w .1) _ _ (l .1) f d _ _ (c .before .before .before .before .before .before .before .before .margin .ensures) (c .before .before .before .before .before .before .before .margin2 .ensures) _ _ (c .before .before .before .before .before .before .widen .ensures) (c .before .before .before .before .before .widen2 .ensures) _ (c .before .before .before .before .before .before .before .before .before .before .before .cells .ensures) _ (c .before .before .shade .ensures)
 
 pub shade-stock-spec : {M : Type 1} → statement M
 shade-stock-spec =

@@ -1,21 +1,20 @@
 -- `field::squares::stock_words` meets its contract. Assumes nothing.
-use native.Mathlib.Omega.{arith}
 use Rattle.field.proofs.SquareLaws.{stocked-rows}
 use borrow.Author.Needs.{needs}
 use Rattle.field.proofs.squares.stock_words.Statement.{statement}
 use Rattle.field.proofs.squares.stock_words.Tie as tie
 
-tells-requires : tie.Need-tells-requires
-tells-requires c κs = search needs
+takes-requires : tie.Need-takes-requires
+takes-requires c κs = search needs
 
-tells-requires-2 : tie.Need-tells-requires-2
-tells-requires-2 c κs = search needs
+takes-requires-2 : tie.Need-takes-requires-2
+takes-requires-2 c κs = search needs
 
 shade-stock-requires : tie.Need-shade-stock-requires
 shade-stock-requires c κs =
     let p = c .before .before .before .before .before .before .before .pre in
     let w = p .1 .1 .0 in
-    (p .0, (p .1 .0, ((w .0, w .1), (p .1 .1 .1, (c .before .before .before .before .tells .ensures (c .before .before .before .if1 .taken), c .before .before .tells2 .ensures (c .before .if2 .taken))))))
+    (p .0, (p .1 .0, ((w .0, w .1), (p .1 .1 .1, (c .before .before .before .before .takes .ensures (c .before .before .before .if1 .taken), c .before .before .takes2 .ensures (c .before .if2 .taken))))))
 
 same-length : tie.Need-same-length
 same-length c = search needs
@@ -39,8 +38,8 @@ pub stock-words-spec : {M : Type 1} → statement M
 stock-words-spec =
     tie.close
     (tie.spec
-    tells-requires
-    tells-requires-2
+    takes-requires
+    takes-requires-2
     shade-stock-requires
     same-length
     returns

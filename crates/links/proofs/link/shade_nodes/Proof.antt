@@ -11,7 +11,7 @@ same-length : tie.Need-same-length
 same-length c = search needs
 
 returns : tie.Need-returns
-returns c = let s = c .before .before .before .before .before .before .before in let p = s .pre in shaded-tell _ (p .0) (s .args .map .now) _ (p .1 .0) (p .1 .1 .0 .0) (p .1 .1 .0 .1) _ _ (c .before .before .shade .ensures)
+returns c = let s = c .before .before .before .before .before .before .before in let p = s .pre in shaded-tell _ (p .0) (s .args .map .now) _ (p .1 .0) (p .1 .1 .0) _ _ (c .before .before .shade .ensures)
 
 pub shade-nodes-spec : {M : Type 1} → statement M
 shade-nodes-spec = tie.close (tie.spec shade-requires same-length returns)
