@@ -1,15 +1,14 @@
 -- The rows to the nearest mark of a column: up to one above, then on either side. Assumes nothing.
-use mathlib.Core.Path.{_≡_, refl, sym, ap, _∙_, subst}
-use mathlib.Core.Bool.{true, false}
+use mathlib.Core.Path.{_≡_, refl, subst}
 use mathlib.Core.List.{List}
-use Prim.Native.Nat.{ℕ, _+_, _-_, _*_, _≤_, _<_}
+use Prim.Native.Nat.{ℕ, _+_, _-_, _≤_, _<_}
 use native.Mathlib.Omega.{arith}
 use lib.ListN.{getD}
 use lib.Dec.{eqb, ltb}
 use borrow.Author.Tests.{ltb-true, ltb-false, eqb-true, eqb-false}
 use Rattle.loops.specs.Cells.{number}
 use Rattle.loops.proofs.Cases.{by-cases, by-test}
-use Rattle.distance.specs.Least.{Least, some, none, gap}
+use Rattle.distance.specs.Least.{some, none, gap}
 use Rattle.distance.specs.Column.{lost, fromAbove, fromBelow}
 use Rattle.dilation.specs.Parts.{Marked, Above, Beside}
 

@@ -1,5 +1,5 @@
 -- Places that others reach, from the left and from the right. Assumes nothing.
-use mathlib.Core.Path.{_≡_, refl, sym, _∙_, ap, subst}
+use mathlib.Core.Path.{_≡_, sym, _∙_, ap, subst}
 use mathlib.Core.Bool.{true, false, true≢false}
 use mathlib.Core.List.{List}
 use Prim.Native.Nat.{ℕ, _+_, _-_, _≤_, _<_, max}
@@ -9,8 +9,7 @@ use lib.Seq.{getD-set-same, getD-set-other}
 use lib.Dec.{ltb, eqb}
 use borrow.Author.Tests.{ltb-true, ltb-false}
 use Rattle.loops.proofs.Cases.{by-cases}
-use Rattle.distance.specs.Least.{gap}
-use Rattle.dilation.specs.Parts.{Reaches, Reach, Within, Covers, CoversLeft, Covered, CoveredLeft, CoveredRight}
+use Rattle.dilation.specs.Parts.{Reach, Covers, CoversLeft, Covered, CoveredLeft, CoveredRight}
 
 module _ (f : ℕ → ℕ) where
   pub reach-none : Reach f 0 0

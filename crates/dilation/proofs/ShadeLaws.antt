@@ -75,10 +75,10 @@ module _ (m : List ℕ) (nx : ℕ) (w : Window) (O : On nx w) (j : ℕ) (H : j <
       missed p q I s d b (none f z) = absurd (f q (record { low = I .low; high = I .high; set = s }))
 
       module _ (b : ℕ) (C : Covers (widthAt dist widths) (w .right - w .left) (i - w .left) b) where
-        pub near-is : eqb b 1 ≡ true → Near m nx w i j e
+        near-is : eqb b 1 ≡ true → Near m nx w i j e
         near-is h = let c = C .yes h in reached (c .place) (c .place-in) (getD dist (c .place) 0) (c .over) (rows (c .place) (c .place-in))
 
-        pub clear-is : eqb b 1 ≡ false → Clear m nx w i j e
+        clear-is : eqb b 1 ≡ false → Clear m nx w i j e
         clear-is h = record {
           least = λ p q I s.
               let a = I .left in
@@ -113,7 +113,7 @@ module _ (m : List ℕ) (nx : ℕ) (w : Window) (i j near beyond a b o : ℕ) (A
   met : o < beyond → eqb b 1 ≡ true
   met h = by-cases (eqb b 1) (λ y. y) (λ y. absurd (let z : ⊥ = omega (arith, word-beyond y) in z))
 
-  pub shade-is : Shade m nx w near beyond i j o
+  shade-is : Shade m nx w near beyond i j o
   shade-is = record {
     within = λ h. FY (met h);
     beyond = λ h. by-cases (eqb b 1)
@@ -138,7 +138,7 @@ blank-covered n e dist widths W B z =
 -- ---- the rows
 
 module _ (m : List ℕ) (nx : ℕ) (w : Window) (O : On nx w) where
-  pub dists-none : (dist : List ℕ) → ((k : ℕ) → k < 4096 → getD dist k 0 ≡ lost) → Dists m nx w (w .hi) dist
+  dists-none : (dist : List ℕ) → ((k : ℕ) → k < 4096 → getD dist k 0 ≡ lost) → Dists m nx w (w .hi) dist
   dists-none dist h = record { at = λ b. absurd (let z : ⊥ = omega arith in z); none = λ _ k b. h k (omega (arith, O .columns)) }
 
   module _ (j : ℕ) (L : w .lo ≤ j) (H : j < w .hi) where
@@ -167,7 +167,7 @@ module _ (m : List ℕ) (nx : ℕ) (w : Window) (O : On nx w) where
 
     module _ (step phase near beyond : ℕ) (u dist dist′ : List ℕ) (S : Shading m nx w step phase near beyond (j + 1) u dist)
         (T : Wrote (λ k. fromBelow (getD u (j * nx + w .left + k) 0) (getD dist k 0)) 0 0 (w .right - w .left) dist dist′) where
-      pub dists-then : Dists m nx w j dist′
+      dists-then : Dists m nx w j dist′
       dists-then = dists-next u dist dist′ (S .rest) (S .dists) T
 
       pub shading-skip : (v : List ℕ) → v ≡ u → (eqb (j % step) phase || eqb (j + 1) (w .hi)) ≡ false → Shading m nx w step phase near beyond j v dist′

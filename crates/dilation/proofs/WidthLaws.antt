@@ -28,9 +28,6 @@ pub width-next : (e d w : ℕ) → Width e d w → e ≤ square w + square (d + 
 width-next e d w h = omega (arith, h .above, square-mono d (d + 1) (omega arith))
 
 module _ (e : ℕ) where
-  pub widths-none : (t : List ℕ) → WidthsTo e 0 t
-  widths-none t = record { at = λ d b. absurd (let z : ⊥ = omega arith in z) }
-
   pub widths-more : (n v : ℕ) (t : List ℕ) → WidthsTo e n t → n < length t → Width e n v → WidthsTo e (n + 1) (set t n v)
   widths-more n v t h l w = record {
     at = λ d b. by-cases (ltb d n)

@@ -5,7 +5,7 @@ use native.Mathlib.Omega.{arith}
 use lib.ListN.{length, length-set}
 use Rattle.distance.specs.Least.{square}
 use Rattle.dilation.specs.Parts.{WidthsTo}
-use Rattle.dilation.proofs.WidthLaws.{width-next, widths-none, widths-more, widths-end}
+use Rattle.dilation.proofs.WidthLaws.{width-next, widths-more, widths-end}
 use borrow.Author.Needs.{needs}
 use Rattle.dilation.proofs.widths.fill.Statement.{statement}
 use Rattle.dilation.proofs.widths.fill.Tie as tie

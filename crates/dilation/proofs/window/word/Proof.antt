@@ -1,7 +1,6 @@
 -- `dilation::window::word` meets its contract. Assumes nothing.
 use borrow.Author.Tests.{eq-eqb, ne-eqb}
 use Rattle.dilation.specs.Parts.{wordOf}
-use borrow.Author.Needs.{needs}
 use Rattle.dilation.proofs.window.word.Statement.{statement}
 use Rattle.dilation.proofs.window.word.Tie as tie
 
