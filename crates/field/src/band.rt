@@ -1,7 +1,7 @@
 // Bands of rows and of columns: a round of the field goes by those near to a cell that was cut.
 ghost use mathlib.Core.Path.{_≡_};
 ghost use mathlib.Core.Bool.{true};
-ghost use Prim.Native.Nat.{_*_, _≤_, _<_, min, max};
+ghost use Prim.Native.Nat.{_*_, _≤_, _<_};
 ghost use lib.ListN.{length};
 ghost use Rattle.raster.specs.Grid.{Sides};
 ghost use Rattle.field.specs.Bands.{widened, Margin, Unmarked, MarkedRows, MarkedColumns, RowsOf, Around};
@@ -15,24 +15,6 @@ use rims::tiles::gather_rows;
 pub struct Band {
     pub lo: usize,
     pub hi: usize,
-}
-
-pub fn lesser(a: usize, b: usize) -> usize
-    ensures { λ r. ⌜ r ≡ min a b ⌝ }
-{
-    if a < b {
-        return a;
-    }
-    b
-}
-
-pub fn greater(a: usize, b: usize) -> usize
-    ensures { λ r. ⌜ r ≡ max a b ⌝ }
-{
-    if a < b {
-        return b;
-    }
-    a
 }
 
 // How many rows apart cells of a map of ny rows can be that are within a limit: all of them, where none

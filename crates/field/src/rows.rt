@@ -10,14 +10,14 @@ ghost use Rattle.rims.specs.Sums.{HitsAlong};
 ghost use Rattle.field.specs.Bands.{windowRow, windowRows};
 ghost use Rattle.field.specs.Field.{sensed, fieldCell};
 ghost use Rattle.field.specs.Gauge.{Gauged, KnownAt, Sensing};
-use super::band::greater;
-use super::band::lesser;
 use super::gauge::Gauge;
 use super::gauge::Known;
 use super::gauge::is_sampled;
 use super::gauge::value_at;
 use super::gauge::wanted;
 use dilation::window::Window;
+use numbers::counts::greatest;
+use numbers::counts::least;
 use raster::contact::samples_of;
 use rims::sums::hits_along;
 use rims::sums::start_of;
@@ -219,12 +219,12 @@ fn field_row(
     requires { ⌜ (j < g .setup .grid .ny) × (sampled ≤ j * g .setup .grid .nx) × (w .left ≤ g .setup .grid .nx) ⌝ }
     ensures { λ n. ⌜ sensed (now (f .exit)) n ≡ windowRow (g .setup) (g .all) (now (map .entry)) (now (allowed .entry)) (now (stock .entry)) (now (near .entry)) w j (sensed (now (f .entry)) sampled) ⌝ }
 {
-    let first = greater(1, w.left);
-    let end = lesser(w.right, g.setup.grid.nx - 1);
+    let first = greatest(1, w.left);
+    let end = least(w.right, g.setup.grid.nx - 1);
     let mut n = sampled;
     let mut i = first;
     while i < end {
-        let next = lesser(i + 32, end);
+        let next = least(i + 32, end);
         n = field_run(g, map, allowed, stock, near, rim, f, j, i, next, n);
         i = next;
     }
@@ -247,8 +247,8 @@ pub fn field_rows(
     requires { ⌜ w .left ≤ g .setup .grid .nx ⌝ }
     ensures { λ n. ⌜ sensed (now (f .exit)) n ≡ windowRows (g .setup) (g .all) (now (map .entry)) (now (allowed .entry)) (now (stock .entry)) (now (near .entry)) w (sensed (now (f .entry)) 0) ⌝ }
 {
-    let first = greater(1, w.lo);
-    let end = lesser(w.hi, g.setup.grid.ny - 1);
+    let first = greatest(1, w.lo);
+    let end = least(w.hi, g.setup.grid.ny - 1);
     let mut n = 0;
     for j in first..end {
         n = field_row(g, w, map, allowed, stock, near, rim, f, j, n);

@@ -9,8 +9,8 @@ ghost use Rattle.rims.specs.Offsets.{reachOf, Roomy, entryAt, Rims};
 ghost use Rattle.rims.specs.Sums.{Added, Countable, Summed, HitsAlong};
 use super::hits::is_roomy;
 use super::offsets::reach_of;
+use numbers::counts::least;
 use raster::grid::Grid;
-use spans::runs::least;
 
 // Adds 1 to the count of each of the 32 cells from number a on that is stock. No turn stops it, so that many go at once.
 fn add_cells(map: &[u8], a: usize, counts: &mut [u16])

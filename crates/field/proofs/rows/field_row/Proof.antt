@@ -18,14 +18,14 @@ Inv-loop g map allowed stock near rim f₀ j sampled first end n₀ i₀ f n i =
 abbrev μ-loop : tie.MeasureT-loop
 μ-loop g map allowed stock near rim f₀ j sampled first end n₀ i₀ f n i = end - i
 
-greater-requires : tie.Need-greater-requires Inv-loop μ-loop
-greater-requires c κs = search needs
+greatest-requires : tie.Need-greatest-requires Inv-loop μ-loop
+greatest-requires c κs = search needs
 
-sub-lesser : tie.Need-sub-lesser Inv-loop μ-loop
-sub-lesser c = c .before .before .before .before .before .before .before .before .pre .1 .0 .over .sides .wide
+sub-least : tie.Need-sub-least Inv-loop μ-loop
+sub-least c = c .before .before .before .before .before .before .before .before .pre .1 .0 .over .sides .wide
 
-lesser-requires : tie.Need-lesser-requires Inv-loop μ-loop
-lesser-requires c κs = search needs
+least-requires : tie.Need-least-requires Inv-loop μ-loop
+least-requires c κs = search needs
 
 loop-holds : tie.Need-loop-holds Inv-loop μ-loop
 loop-holds c = going-none _ _ _ _
@@ -38,33 +38,33 @@ swept c =
 
 -- a run ends in the row
 ends : (c : tie.In-loop Inv-loop μ-loop) → c .before .loop .i < c .before .before .before .before .before .before .before .before .before .before .before .args .g .setup .grid .nx
-ends c = omega (arith, c .loop-test .taken, c .before .before .lesser .ensures)
+ends c = omega (arith, c .loop-test .taken, c .before .before .least .ensures)
 
-add-lesser : tie.Need-add-lesser Inv-loop μ-loop
-add-lesser c = omega (arith, ends c, c .before .before .before .before .before .before .before .before .before .before .before .pre .1 .0 .over .sides .columns)
+add-least : tie.Need-add-least Inv-loop μ-loop
+add-least c = omega (arith, ends c, c .before .before .before .before .before .before .before .before .before .before .before .pre .1 .0 .over .sides .columns)
 
-lesser-requires-2 : tie.Need-lesser-requires-2 Inv-loop μ-loop
-lesser-requires-2 c κs = search needs
+least-requires-2 : tie.Need-least-requires-2 Inv-loop μ-loop
+least-requires-2 c κs = search needs
 
 field-run-requires : tie.Need-field-run-requires Inv-loop μ-loop
 field-run-requires c κs =
     let s = c .before .before .before .before .before .before .before .before .before .before .before .before .before in
     let w = swept (c .before .before .before) in
-    let e = c .before .lesser2 .ensures in
+    let e = c .before .least2 .ensures in
     let t = c .before .before .loop-test .taken in
-    (s .pre .0, (subst (Sensing (s .args .g .setup) (s .args .map .now) (s .args .allowed .now) (s .args .stock .now) (s .args .near .now) (s .args .rim .now)) (sym (w .long)) (s .pre .1 .0), ((s .pre .1 .1 .0, w .few), (omega (arith, e, t), omega (arith, e, t, c .before .before .before .before .lesser .ensures)))))
+    (s .pre .0, (subst (Sensing (s .args .g .setup) (s .args .map .now) (s .args .allowed .now) (s .args .stock .now) (s .args .near .now) (s .args .rim .now)) (sym (w .long)) (s .pre .1 .0), ((s .pre .1 .1 .0, w .few), (omega (arith, e, t), omega (arith, e, t, c .before .before .before .before .least .ensures)))))
 
 loop-less : tie.Need-loop-less Inv-loop μ-loop
-loop-less c = omega (arith, c .before .before .before .before .before .loop-test .taken, c .before .before .before .before .lesser2 .ensures)
+loop-less c = omega (arith, c .before .before .before .before .before .loop-test .taken, c .before .before .before .before .least2 .ensures)
 
 loop-again : tie.Need-loop-again Inv-loop μ-loop
-loop-again c = let e = c .before .before .before .before .lesser2 .ensures in let t = c .before .before .before .before .before .loop-test .taken in going-over _ _ _ _ _ _ _ _ (c .before .before .before .before .before .before .loop .inv) (omega (arith, e, t)) (omega (arith, e, t)) (c .before .before .field-run .ensures)
+loop-again c = let e = c .before .before .before .before .least2 .ensures in let t = c .before .before .before .before .before .loop-test .taken in going-over _ _ _ _ _ _ _ _ (c .before .before .before .before .before .before .loop .inv) (omega (arith, e, t)) (omega (arith, e, t)) (c .before .before .field-run .ensures)
 
 same-length : tie.Need-same-length Inv-loop μ-loop
 same-length c = swept (c .before) .long
 
 returns : tie.Need-returns Inv-loop μ-loop
-returns c = row-is _ _ _ _ _ _ _ _ _ _ _ _ (c .before .before .before .before .greater .ensures) (c .before .before .lesser .ensures) (going-end _ _ _ _ _ _ (c .before .loop .inv) (c .loop-test .left))
+returns c = row-is _ _ _ _ _ _ _ _ _ _ _ _ (c .before .before .before .before .greatest .ensures) (c .before .before .least .ensures) (going-end _ _ _ _ _ _ (c .before .loop .inv) (c .loop-test .left))
 
 pub field-row-spec : {M : Type 1} → statement M
 field-row-spec =
@@ -72,12 +72,12 @@ field-row-spec =
     (tie.spec
     Inv-loop
     μ-loop
-    greater-requires
-    sub-lesser
-    lesser-requires
+    greatest-requires
+    sub-least
+    least-requires
     loop-holds
-    add-lesser
-    lesser-requires-2
+    add-least
+    least-requires-2
     field-run-requires
     loop-less
     loop-again

@@ -19,14 +19,14 @@ Inv-loop g w map allowed stock near rim f₀ first end n₀ j₀ f n j = Going (
 abbrev μ-loop : tie.MeasureT-loop
 μ-loop g w map allowed stock near rim f₀ first end n₀ j₀ f n j = end - j
 
-greater-requires : tie.Need-greater-requires Inv-loop μ-loop
-greater-requires c κs = search needs
+greatest-requires : tie.Need-greatest-requires Inv-loop μ-loop
+greatest-requires c κs = search needs
 
-sub-lesser : tie.Need-sub-lesser Inv-loop μ-loop
-sub-lesser c = c .before .before .before .before .before .before .before .before .pre .1 .0 .over .sides .high
+sub-least : tie.Need-sub-least Inv-loop μ-loop
+sub-least c = c .before .before .before .before .before .before .before .before .pre .1 .0 .over .sides .high
 
-lesser-requires : tie.Need-lesser-requires Inv-loop μ-loop
-lesser-requires c κs = search needs
+least-requires : tie.Need-least-requires Inv-loop μ-loop
+least-requires c κs = search needs
 
 loop-holds : tie.Need-loop-holds Inv-loop μ-loop
 loop-holds c = going-none _ _ _ _
@@ -41,7 +41,7 @@ field-row-requires : tie.Need-field-row-requires Inv-loop μ-loop
 field-row-requires c κs =
     let s = c .before .before .before .before .before .before .before .before .before .before .before .before in
     let w = swept (c .before .before) in
-    (s .pre .0, (subst (Sensing (s .args .g .setup) (s .args .map .now) (s .args .allowed .now) (s .args .stock .now) (s .args .near .now) (s .args .rim .now)) (sym (w .long)) (s .pre .1 .0), (omega (arith, c .before .loop-test .taken, c .before .before .before .lesser .ensures), w .few, s .pre .1 .1)))
+    (s .pre .0, (subst (Sensing (s .args .g .setup) (s .args .map .now) (s .args .allowed .now) (s .args .stock .now) (s .args .near .now) (s .args .rim .now)) (sym (w .long)) (s .pre .1 .0), (omega (arith, c .before .loop-test .taken, c .before .before .before .least .ensures), w .few, s .pre .1 .1)))
 
 add-j : tie.Need-add-j Inv-loop μ-loop
 add-j c = omega arith
@@ -56,7 +56,7 @@ same-length : tie.Need-same-length Inv-loop μ-loop
 same-length c = swept (c .before) .long
 
 returns : tie.Need-returns Inv-loop μ-loop
-returns c = rows-are _ _ _ _ _ _ _ _ _ _ _ (c .before .before .before .before .greater .ensures) (c .before .before .lesser .ensures) (going-end _ _ _ _ _ _ (c .before .loop .inv) (c .loop-test .left))
+returns c = rows-are _ _ _ _ _ _ _ _ _ _ _ (c .before .before .before .before .greatest .ensures) (c .before .before .least .ensures) (going-end _ _ _ _ _ _ (c .before .loop .inv) (c .loop-test .left))
 
 pub field-rows-spec : {M : Type 1} → statement M
 field-rows-spec =
@@ -64,9 +64,9 @@ field-rows-spec =
     (tie.spec
     Inv-loop
     μ-loop
-    greater-requires
-    sub-lesser
-    lesser-requires
+    greatest-requires
+    sub-least
+    least-requires
     loop-holds
     field-row-requires
     add-j
