@@ -39,7 +39,7 @@ pub fn seg_distance(p: Vec2, a: Vec2, b: Vec2) -> f64
 }
 
 // The vertex after vertex i of a loop of n.
-fn next(n: usize, i: usize) -> usize
+pub fn next(n: usize, i: usize) -> usize
     requires { ⌜ i < n ⌝ }
     ensures { λ r. ⌜ (r ≡ after n i) × (r < n) ⌝ }
 {

@@ -1,6 +1,6 @@
 -- Wall distances, where the tool may go and what it reaches, from what the steps left in the workspace. Assumes nothing.
 use mathlib.Core.Path.{_≡_, refl, sym, ap, _∙_, subst}
-use mathlib.Core.Bool.{Bool, true, false, _&&_}
+use mathlib.Core.Bool.{Bool, true, false, not, _&&_}
 use mathlib.Core.List.{List}
 use Prim.Native.Nat.{ℕ, _+_, _-_, _*_, _/_, _%_, _≤_, _<_}
 use native.Mathlib.Omega.{arith}
@@ -34,6 +34,7 @@ use Rattle.setup.proofs.LayoutLaws.{run-put, run-other}
 use Rattle.setup.proofs.PartLaws.{part-is, put-run-long}
 use Rattle.start.specs.Start.{wallAt, wallsOf, flag, clearAt, mayAt, allowedOf, reachAt, reachOf}
 use Rattle.start.specs.Steps.{lengthAt, mayByte, nearByte, nearAt, Reached}
+use Rattle.start.specs.Blocks.{middle}
 use Rattle.pieces.proofs.PartLaws.{within-get}
 use Rattle.start.proofs.WriteLaws.{writeFrom, run-written, read-run, listed-same}
 use Rattle.start.proofs.StockLaws.{Bits}
@@ -106,15 +107,19 @@ module _ (g : Grid) (b u u′ : List ℕ) (w t : List Float) (n a : ℕ) (N : n 
 pub center-is : (g : Grid) (q : Vec2) (i j k : ℕ) → q ≡ centerOf g i j → i ≡ k % g .nx → j ≡ k / g .nx → q ≡ centerOf g (k % g .nx) (k / g .nx)
 center-is g q i j k E I J = E ∙ ap (λ (z : ℕ). centerOf g z j) I ∙ ap (centerOf g (k % g .nx)) J
 
-module _ (s : Setup) (vs : List Float) (lens : List ℕ) (k : ℕ) (q : Vec2) (Q : q ≡ centerOf (s .grid) (k % s .grid .nx) (k / s .grid .nx)) (t : Bool)
-    (T : t ≡ anyWithin vs lens (s .region) q (s .keep)) where
-  pub clear-near : t ≡ true → false ≡ clearAt s vs lens k
-  unfolding clearAt
-  clear-near e = rw (← Q, ← T, e)
+with-true : (a b : Bool) → b ≡ true → a ≡ a && b
+with-true true b e = sym e
+with-true false b e = refl
 
-  pub clear-in : t ≡ false → (i : Bool) → i ≡ containsOf vs lens (s .region) q → i ≡ clearAt s vs lens k
+-- of a centre in the region
+module _ (s : Setup) (vs : List Float) (lens : List ℕ) (k : ℕ) (I : containsOf vs lens (s .region) (middle s k) ≡ true) where
+  pub clear-apart : anyWithin vs lens (s .region) (middle s k) (s .keep) ≡ false → true ≡ clearAt s vs lens k
   unfolding clearAt
-  clear-in e i I = rw (← Q, ← T, e) I
+  clear-apart e = rw e (sym I)
+
+  pub clear-asked : (q : Vec2) → q ≡ middle s k → (t : Bool) → t ≡ anyWithin vs lens (s .region) q (s .keep) → not t ≡ clearAt s vs lens k
+  unfolding clearAt
+  clear-asked q Q t T = ap not (T ∙ ap (λ (z : Vec2). anyWithin vs lens (s .region) z (s .keep)) Q) ∙ with-true _ _ I
 
 module _ (s : Setup) (vs : List Float) (lens : List ℕ) (k inside : ℕ) (wall : Float) where
   pub may-out : (inside ≡ 1 → ⊥) → 0 ≡ mayByte s vs lens k inside wall

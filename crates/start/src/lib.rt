@@ -12,6 +12,7 @@ ghost use Rattle.start.specs.Steps.{Room};
 use setup::Setup;
 
 mod allowed;
+mod blocks;
 mod reach;
 pub mod ready;
 mod stock;

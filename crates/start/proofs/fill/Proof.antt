@@ -1,7 +1,8 @@
 -- `start::fill` meets its contract. Assumes nothing.
-use mathlib.Core.Path.{_∙_}
+use mathlib.Core.Path.{sym, ap, _∙_}
 use native.Mathlib.Omega.{arith}
 use borrow.Author.Needs.{needs}
+use Rattle.start.specs.Start.{insideOf}
 use Rattle.start.proofs.StartLaws.{started-is}
 use Rattle.entry.proofs.RegionsLaws.{held-is}
 use Rattle.start.proofs.fill.Statement.{statement}
@@ -19,7 +20,10 @@ reach-requires c κs =
     let room = s .pre .1 .1 .1 .1 .1 in
     let k = c .before .before .before .before .before .before .before .stock .kept .1 .1 .1 .1 .1 .1 in (
       record { sides = s .pre .0; held = held-is (s .args .vs .now) (s .args .lens .now) (s .args .regions .now) (s .pre .1 .0) 0 (s .pre .1 .0 .some) _ (s .pre .1 .1 .0); bound = s .pre .1 .1 .1 .0 },
-      record { bytes = omega (arith, room .bytes, k .0); words = room .words; doubles = omega (arith, room .doubles, k .1 .0) },
+      (
+        record { bytes = omega (arith, room .bytes, k .0); words = room .words; doubles = omega (arith, room .doubles, k .1 .0) },
+        c .before .before .before .before .before .before .before .stock .ensures .inside ∙ ap (insideOf (s .args .s .grid) (s .args .vs .now) (s .args .lens .now)) (sym (s .pre .1 .1 .0)),
+      ),
     )
 
 tables-requires : tie.Need-tables-requires

@@ -8,7 +8,9 @@ fill-walls-requires : tie.Need-fill-walls-requires
 fill-walls-requires c κs = search needs
 
 fill-allowed-requires : tie.Need-fill-allowed-requires
-fill-allowed-requires c κs = search needs
+fill-allowed-requires c κs =
+    let s = c .before .before .before .before .before .before .before .before .before .before .before .before .before .before .before .before in
+    (s .pre .0, (s .pre .1 .0 .bytes, (search needs, s .pre .1 .1)))
 
 fill-reach-requires : tie.Need-fill-reach-requires
 fill-reach-requires c κs = search needs
@@ -25,7 +27,7 @@ same-length-3 c = search needs
 returns : tie.Need-returns
 returns c =
     let s = c .before .before .before .before .before .before .before .before .before .before .before .before .before .before .before .before .before .before .before .before .before .before .before .before .before .before in
-    reached-is (s .args .s) (s .args .vs .now) (s .args .lens .now) (s .args .b .now) _ _ _ (s .pre .1 .bytes) (c .before .before .before .before .before .before .before .before .before .before .before .before .before .before .before .before .fill-walls .ensures) (c .before .before .before .before .before .before .before .before .before .fill-allowed .ensures) (c .before .before .before .before .fill-reach .ensures)
+    reached-is (s .args .s) (s .args .vs .now) (s .args .lens .now) (s .args .b .now) _ _ _ (s .pre .1 .0 .bytes) (c .before .before .before .before .before .before .before .before .before .before .before .before .before .before .before .before .fill-walls .ensures) (c .before .before .before .before .before .before .before .before .before .fill-allowed .ensures) (c .before .before .before .before .fill-reach .ensures)
 
 pub reach-spec : {M : Type 1} → statement M
 reach-spec =
