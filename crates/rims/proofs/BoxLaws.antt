@@ -27,7 +27,7 @@ use Rattle.spans.specs.Spans.{Placed}
 use Rattle.spans.specs.Ends.{belowOf, beyondOf, Edged, Tame}
 use Rattle.spans.proofs.MonoLaws.{Size, between-finite, add-some, share-mono}
 use Rattle.spans.proofs.EdgeLaws.{share-from, tame-size, column-edged, row-edged, column-between, row-between}
-use Rattle.rims.specs.Offsets.{reachOf, Roomy, Rims}
+use Rattle.rims.specs.Offsets.{reachOf, Roomy, Entered, Rims}
 use Rattle.rims.specs.Offsets as Offsets
 use Rattle.spans.specs.Spans.{word}
 use Rattle.rims.specs.Boxes.{Apart, Started, Two, EdgesIn, EdgesTo, Near, Entry, EntriesTo, Numbers, BlocksTo, Boxed}
@@ -273,17 +273,22 @@ module _ (g : Grid) (S : Sides g) (r : Float) (n at a e : ℕ) (few : n ≤ 2048
   boxed-before h k = boxed-same g S r n at few w v (A .long) (λ i b d. A .after i (omega arith)) (λ i b d. A .after i (omega arith))
 
   -- the table of offsets stands before
+  entered-apart : 6144 ≤ a → Entered g r n w → Entered g r n v
+  entered-apart h E = record {
+    long = omega (arith, A .long, E .long);
+    few = E .few;
+    rim = rim-apart n a e w v (omega arith) A (E .rim);
+    number = λ k b. subst (λ (z : Float). T (not (isNan z))) (sym (A .before (4096 + k) (omega arith))) (E .number k b);
+    lies = λ k b. subst (λ (z : Float). Offsets.Entry g r (reachOf g r) (directionAt n k) (toBits binary64 z)) (sym (A .before (4096 + k) (omega arith))) (E .lies k b);
+  }
+
   pub rims-apart : 6144 ≤ a → Rims g r n w → Rims g r n v
   rims-apart h R = record {
-    long = omega (arith, A .long, R .long);
-    few = R .few;
-    rim = rim-apart n a e w v (omega arith) A (R .rim);
-    number = λ k b. subst (λ (z : Float). T (not (isNan z))) (sym (A .before (4096 + k) (omega arith))) (R .number k b);
-    lies = λ k b. subst (λ (z : Float). Offsets.Entry g r (reachOf g r) (directionAt n k) (toBits binary64 z)) (sym (A .before (4096 + k) (omega arith))) (R .lies k b);
+    entered = entered-apart h (R .entered);
     all = λ b.
         let same : (k : ℕ) → k < 2048 → Offsets.entryAt w k ≡ Offsets.entryAt v k = λ k l. ap (toBits binary64) (sym (A .before (4096 + k) (omega arith))) in
         let t = R .all (omega (arith, same 0 (omega arith))) in
-        record { at = λ i d. let f = R .few in omega (arith, t .at i d, same i (omega arith)) };
+        record { at = λ i d. let f = R .entered .few in omega (arith, t .at i d, same i (omega arith)) };
   }
 
 pub reach-some : (g : Grid) (r : Float) (s : ℕ) → s ≡ reachOf g r → 0 < s

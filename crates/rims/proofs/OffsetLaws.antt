@@ -145,7 +145,7 @@ module _ (g : Grid) (m : List ℕ) (r : Float) (s : ℕ) (u : Vec2) (e i j : ℕ
 -- an entry that is not 0 tells where sample k lies
 module _ (g : Grid) (m : List ℕ) (r : Float) (n : ℕ) (w : List Float) (T : Rims g r n w) (s i j : ℕ) (S : s ≡ reachOf g r) (R : Roomy g s i j) (k x : ℕ) (K : k < n) (X : entryAt w k ≡ x + 1) where
   told : Lies g r s (directionAt n k) x
-  told = subst (λ (z : ℕ). Lies g r z (directionAt n k) x) (sym S) (T .lies k K x X)
+  told = subst (λ (z : ℕ). Lies g r z (directionAt n k) x) (sym S) (T .entered .lies k K x X)
 
   pub told-inside : (j - s) * g .nx + (i - s) + x < g .ny * g .nx
   told-inside = lies-inside g m r s (directionAt n k) x i j told R
@@ -218,7 +218,7 @@ told-more k w h e = record {
 
 module _ (g : Grid) (r : Float) (n : ℕ) (w : List Float) (E : Entered g r n w) where
   pub rims-told : AllTold n w → Rims g r n w
-  rims-told A = record { long = E .long; few = E .few; rim = E .rim; number = E .number; lies = E .lies; all = λ _. A }
+  rims-told A = record { entered = E; all = λ _. A }
 
   -- the first sample is told to have no cell
   pub rims-off : Rims g r n (set w 4096 (ofBits binary64 0))
@@ -229,18 +229,20 @@ module _ (g : Grid) (r : Float) (n : ℕ) (w : List Float) (E : Entered g r n w)
       let other : (k : ℕ) → (k ≡ 4096 → ⊥) → getD v k nan ≡ getD w k nan = λ k d. getD-set-other w 4096 k (ofBits binary64 0) nan d in
       let zero : entryAt v 0 ≡ 0 = ap (toBits binary64) first ∙ bits-back 0 (omega arith) in
       record {
-        long = omega (arith, E .long);
-        few = E .few;
-        rim = record {
-          long = omega (arith, E .rim .long);
-          x = λ i h. other (2 * i) (λ e. let z = E .few in omega arith) ∙ E .rim .x i h;
-          y = λ i h. other (2 * i + 1) (λ e. let z = E .few in omega arith) ∙ E .rim .y i h;
+        entered = record {
+          long = omega (arith, E .long);
+          few = E .few;
+          rim = record {
+            long = omega (arith, E .rim .long);
+            x = λ i h. other (2 * i) (λ e. let z = E .few in omega arith) ∙ E .rim .x i h;
+            y = λ i h. other (2 * i + 1) (λ e. let z = E .few in omega arith) ∙ E .rim .y i h;
+          };
+          number = λ k b. by-cases (eqb k 0)
+              (λ t. subst (λ (q : ℕ). T (not (isNan (getD v (4096 + q) nan)))) (sym (eqb-true k 0 t)) (subst (λ (q : Float). T (not (isNan q))) (sym first) (bits-number 0 (omega arith))))
+              (λ t. subst (λ (q : Float). T (not (isNan q))) (sym (other (4096 + k) (λ e. eqb-false k 0 t (omega arith)))) (E .number k b));
+          lies = λ k b. by-cases (eqb k 0)
+              (λ t e x. absurd (let z : ⊥ = omega (arith, ap (entryAt v) (eqb-true k 0 t)) in z))
+              (λ t. subst (λ (q : Float). Entry g r (reachOf g r) (directionAt n k) (toBits binary64 q)) (sym (other (4096 + k) (λ e. eqb-false k 0 t (omega arith)))) (E .lies k b));
         };
-        number = λ k b. by-cases (eqb k 0)
-            (λ t. subst (λ (q : ℕ). T (not (isNan (getD v (4096 + q) nan)))) (sym (eqb-true k 0 t)) (subst (λ (q : Float). T (not (isNan q))) (sym first) (bits-number 0 (omega arith))))
-            (λ t. subst (λ (q : Float). T (not (isNan q))) (sym (other (4096 + k) (λ e. eqb-false k 0 t (omega arith)))) (E .number k b));
-        lies = λ k b. by-cases (eqb k 0)
-            (λ t e x. absurd (let z : ⊥ = omega (arith, ap (entryAt v) (eqb-true k 0 t)) in z))
-            (λ t. subst (λ (q : Float). Entry g r (reachOf g r) (directionAt n k) (toBits binary64 q)) (sym (other (4096 + k) (λ e. eqb-false k 0 t (omega arith)))) (E .lies k b));
         all = λ b. absurd (let z : ⊥ = omega arith in z);
       }

@@ -84,9 +84,5 @@ pub record Entered (g : Grid) (r : Float) (n : ℕ) (w : List Float) : Type 0 wh
 
 -- so it is, and where the first sample has a cell each has
 pub record Rims (g : Grid) (r : Float) (n : ℕ) (w : List Float) : Type 0 where
-  pub long : 6144 ≤ length w
-  pub few : n ≤ 2048
-  pub rim : Rim n w
-  pub number : (k : ℕ) → k < n → T (not (isNan (getD w (4096 + k) nan)))
-  pub lies : (k : ℕ) → k < n → Entry g r (reachOf g r) (directionAt n k) (entryAt w k)
+  pub entered : Entered g r n w
   pub all : 0 < entryAt w 0 → AllTold n w

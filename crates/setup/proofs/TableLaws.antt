@@ -43,7 +43,7 @@ module _ (s : Setup) (S : Sides (s .grid)) where
   pub rim-tables : (n : ℕ) (w v : List Float) → n ≡ samplesOf (s .samples) → Rims (s .grid) (s .r) n w
       → Apart 8192 17152 w v × Boxed (s .grid) (s .«r_guard») n 12544 v × Boxed (s .grid) (lessOf s) n 14848 v → RimTables s (samplesOf (s .samples)) v
   rim-tables n w v e R B =
-      subst (λ (k : ℕ). RimTables s k v) e (rims-apart (s .grid) S (s .r) n 12544 8192 17152 (R .few) w v (B .0) (omega arith) R, B .1, B .2)
+      subst (λ (k : ℕ). RimTables s k v) e (rims-apart (s .grid) S (s .r) n 12544 8192 17152 (R .entered .few) w v (B .0) (omega arith) R, B .1, B .2)
 
   pub tables-are : (w u : List Float) → 8192 ≤ length w → length u ≡ length (take 2048 (drop 6144 w)) → RimTables s (samplesOf (s .samples)) w → Spanning (s .grid) (s .r) u
       → Tables s (putMid 6144 2048 w u)
@@ -54,8 +54,8 @@ module _ (s : Setup) (S : Sides (s .grid)) where
       let apart = only-apart 6144 8192 w (putMid 6144 2048 w u) fits only in
       record {
         long = omega (arith, only .long);
-        rims = rims-apart (s .grid) S (s .r) n 12544 6144 8192 (R .0 .few) w _ apart (omega arith) (R .0);
+        rims = rims-apart (s .grid) S (s .r) n 12544 6144 8192 (R .0 .entered .few) w _ apart (omega arith) (R .0);
         spans = subst (Spanning (s .grid) (s .r)) (sym (back-there 6144 8192 w fits u U)) P;
-        wider = boxed-before (s .grid) S (s .«r_guard») n 12544 6144 8192 (R .0 .few) w _ apart (omega arith) (omega arith) (R .1);
-        lesser = boxed-before (s .grid) S (lessOf s) n 14848 6144 8192 (R .0 .few) w _ apart (omega arith) (omega arith) (R .2);
+        wider = boxed-before (s .grid) S (s .«r_guard») n 12544 6144 8192 (R .0 .entered .few) w _ apart (omega arith) (omega arith) (R .1);
+        lesser = boxed-before (s .grid) S (lessOf s) n 14848 6144 8192 (R .0 .entered .few) w _ apart (omega arith) (omega arith) (R .2);
       }

@@ -57,7 +57,7 @@ module _ (s : Setup) (all : Bool) (b u : List ℕ) (w f : List Float) (h : Ready
 
   samples-few : s .samples ≤ 2048
   unfolding samplesOf
-  samples-few = omega (arith, h .tables .rims .few)
+  samples-few = omega (arith, h .tables .rims .entered .few)
 
   -- the work fits a machine word
   pub work-fits : (r : ℕ) → r ≡ roundOf s all b f .sampled → r * s .samples ≤ 2147483648

@@ -10,7 +10,7 @@ shared-slice-read-if1 : tie.Need-shared-slice-read-if1
 shared-slice-read-if1 c = search needs
 
 float-to-bits-if1 : tie.Need-float-to-bits-if1
-float-to-bits-if1 c = c .before .before .before .pre .1 .0 .number 0 (c .before .before .before .pre .1 .1)
+float-to-bits-if1 c = c .before .before .before .pre .1 .0 .entered .number 0 (c .before .before .before .pre .1 .1)
 
 reach-of-requires : tie.Need-reach-of-requires
 reach-of-requires c κs = search needs
@@ -28,7 +28,7 @@ center-requires : tie.Need-center-requires
 center-requires c κs = search needs
 
 hits-requires : tie.Need-hits-requires
-hits-requires c κs = let p = c .before .before .before .before .before .pre in (p .0, p .1 .0 .rim)
+hits-requires c κs = let p = c .before .before .before .before .before .pre in (p .0, p .1 .0 .entered .rim)
 
 returns-2 : tie.Need-returns-2
 returns-2 c =

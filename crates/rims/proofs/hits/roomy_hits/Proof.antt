@@ -26,7 +26,7 @@ add-h : tie.Need-add-h Inv-loop μ-loop
 add-h c =
     let s = c .before .before .before in
     let p = s .before .before .before in
-    omega (arith, s .loop .inv .is, hits-most (p .args .g) (p .args .map .now) (centerOf (p .args .g) (p .args .i) (p .args .j)) (p .args .r) (p .args .n) (s .loop .k), c .before .before .loop-test .taken, p .pre .1 .0 .few)
+    omega (arith, s .loop .inv .is, hits-most (p .args .g) (p .args .map .now) (centerOf (p .args .g) (p .args .i) (p .args .j)) (p .args .r) (p .args .n) (s .loop .k), c .before .before .loop-test .taken, p .pre .1 .0 .entered .few)
 
 add-k : tie.Need-add-k Inv-loop μ-loop
 add-k c = omega arith

@@ -21,7 +21,7 @@ shared-slice-read-e : tie.Need-shared-slice-read-e
 shared-slice-read-e c = search needs
 
 float-to-bits-e : tie.Need-float-to-bits-e
-float-to-bits-e c = c .before .pre .1 .0 .number _ (c .before .pre .1 .1 .1 .1 .0)
+float-to-bits-e c = c .before .pre .1 .0 .entered .number _ (c .before .pre .1 .1 .1 .1 .0)
 
 sub-base : tie.Need-sub-base
 sub-base c = search needs

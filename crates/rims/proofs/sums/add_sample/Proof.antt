@@ -24,7 +24,7 @@ shared-slice-read-e : tie.Need-shared-slice-read-e
 shared-slice-read-e c = search needs
 
 float-to-bits-e : tie.Need-float-to-bits-e
-float-to-bits-e c = let s = c .before .before .before .before in s .pre .1 .0 .number _ (s .pre .1 .1 .1 .1 .0 .0)
+float-to-bits-e c = let s = c .before .before .before .before in s .pre .1 .0 .entered .number _ (s .pre .1 .1 .1 .1 .0 .0)
 
 sub-base : tie.Need-sub-base
 sub-base c = search needs
@@ -48,7 +48,7 @@ add-cells-requires : tie.Need-add-cells-requires
 add-cells-requires c κs =
     let s = c .before .before .before .before .before in
     let p = s .pre .1 .1 .1 .1 in
-    (omega (arith, inside s, s .pre .0 .long), summed-few (s .args .g) _ _ _ _ _ _ _ (omega (arith, p .0 .0, s .pre .1 .0 .few)) (p .1))
+    (omega (arith, inside s, s .pre .0 .long), summed-few (s .args .g) _ _ _ _ _ _ _ (omega (arith, p .0 .0, s .pre .1 .0 .entered .few)) (p .1))
 
 same-length : tie.Need-same-length
 same-length c = search needs

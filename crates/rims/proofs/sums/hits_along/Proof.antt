@@ -10,7 +10,7 @@ shared-slice-read-if1 : tie.Need-shared-slice-read-if1
 shared-slice-read-if1 c = search needs
 
 float-to-bits-if1 : tie.Need-float-to-bits-if1
-float-to-bits-if1 c = let p = c .before .before .before .before .pre in p .1 .0 .number 0 (p .1 .1 .0)
+float-to-bits-if1 c = let p = c .before .before .before .before .pre in p .1 .0 .entered .number 0 (p .1 .1 .0)
 
 reach-of-requires : tie.Need-reach-of-requires
 reach-of-requires c κs = search needs

@@ -16,7 +16,7 @@ rim-hits-requires : tie.Need-rim-hits-requires
 rim-hits-requires c κs =
     let s = c .before .before .before .before in
     let e = c .samples-of .ensures in
-    let t = s .pre .1 .1 .0 .rims in
+    let t = s .pre .1 .1 .0 .rims .entered in
     (s .pre .0, (s .pre .1 .0, (rim-same (sym e) (t .rim), ((omega (arith, e, t .few), s .pre .1 .1 .1 .0), subst (λ (n : ℕ). Boxed (s .args .s .grid) (s .args .r) n (s .args .at) (s .args .rim .now)) (sym e) (s .pre .1 .1 .1 .1)))))
 
 returns : tie.Need-returns
