@@ -89,6 +89,7 @@ typedef struct {
  *
  * Workspace, for a raster of N cells: 8 N bytes, 32 N + 8,192 words, 2 N singles, 32 N + 8,192 doubles. What it holds
  * before does not matter. rows and triples are as long as the caller likes: three numbers each.
+ * Of the stack a plan takes some 100 KB (docs/PERFORMANCE.md): measured, not proved.
  *
  * A row is kind, first triple, count. Kinds: 1 helix (centre, radius), 2 plunge (point, 0), 3 link (point, 0),
  * 4 cut (point, angle of contact in radians; the first is 0, unmeasured).
