@@ -8,12 +8,12 @@ use native.Mathlib.Nat.{zero-mul, mul-le-mul-right, mul-pos}
 use native.Mathlib.Omega.{arith}
 use lib.IntN.{ℤ}
 use lib.Dec.{ltb}
-use lib.Ieee.{Float, nan, inf, fin, Format, up, down, round, sum, add, lt, eq, le, isNan}
+use lib.Ieee.{Float, nan, inf, fin, Format, up, down, round, sum, add, sub, neg, lt, eq, le, isNan}
 use lib.Ieee.Fits.{down-pos}
 use borrow.Author.Tests.{ltb-true, ltb-false}
 use Rattle.loops.proofs.Cases.{by-test, never}
 use Rattle.floats.proofs.OrderLaws.{Le, le-of, le-refl}
-use Rattle.floats.proofs.SignLaws.{no-nan, under-top, over-bottom}
+use Rattle.floats.proofs.SignLaws.{no-nan, under-top, over-bottom, neg-le}
 use Rattle.floats.proofs.SwapLaws.{add-swap}
 use Rattle.floats.proofs.RoundMono.{Rounds, rounds-le}
 
@@ -130,3 +130,11 @@ module _ (f : Format) where
   pub add-mono-right : (z x y : Float) → le x y ≡ true → isNan (add f z x) ≡ false → isNan (add f z y) ≡ false → le (add f z x) (add f z y) ≡ true
   add-mono-right z x y h p q =
       rw (add-swap f z x, add-swap f z y) (add-mono x y z h (subst (λ (v : Float). isNan v ≡ false) (add-swap f z x) p) (subst (λ (v : Float). isNan v ≡ false) (add-swap f z y) q))
+
+  pub sub-mono : (x y z : Float) → le x y ≡ true → isNan (sub f x z) ≡ false → isNan (sub f y z) ≡ false → le (sub f x z) (sub f y z) ≡ true
+  unfolding sub
+  sub-mono x y z h p q = add-mono x y (neg z) h p q
+
+  pub sub-anti : (z x y : Float) → le x y ≡ true → isNan (sub f z x) ≡ false → isNan (sub f z y) ≡ false → le (sub f z y) (sub f z x) ≡ true
+  unfolding sub
+  sub-anti z x y h p q = add-mono-right z (neg y) (neg x) (neg-le x y h) q p

@@ -10,7 +10,7 @@ use lib.Ieee.Fits.{round-is}
 use lib.Ieee.Order.{kept, drop}
 use lib.Ieee.Positive.{positive}
 use Rattle.loops.proofs.Cases.{never}
-use Rattle.floats.proofs.OrderLaws.{Le, le-of, le-back}
+use Rattle.floats.proofs.OrderLaws.{Le, le-of, le-back, le-not-lt}
 
 -- the sign is clear
 abbrev pub unsigned : Float → Bool
@@ -75,6 +75,9 @@ zero-under s e (fin true n d) b = absurd b
 zero-under true e (fin false n d) b = le-back true (zero * up e * down d) false (n * up d * down e) tt
 zero-under false e (fin false n d) b =
     le-back false (zero * up e * down d) false (n * up d * down e) (le-trans (le-of-eq (ap (λ (z : ℕ). z * down d) (zero-mul (up e)) ∙ zero-mul (down d))) zero-le)
+
+pub zero-not-over : (s : Bool) (e : ℤ) (y : Float) → T (unsigned y) → lt y (fin s zero e) ≡ true → ⊥
+zero-not-over s e y b h = never (sym (le-not-lt (fin s zero e) y (zero-under s e y b)) ∙ h)
 
 pub under-top : (x : Float) → isNan x ≡ false → le x (inf false) ≡ true
 unfolding le lt eq isNan

@@ -11,9 +11,9 @@ use Rattle.loops.specs.Loop.{orAt, any}
 use Rattle.loops.proofs.Cases.{by-cases, by-test, never, both, either}
 use Rattle.loops.proofs.LoopLaws.{loop-none, loop-more}
 use Rattle.floats.proofs.OrderLaws.{le-le, lt-le, le-refl, le-numbers, lt-to-le, le-not-lt, not-lt-le}
-use Rattle.floats.proofs.SignLaws.{zero-under, neg-le, neg-neg}
+use Rattle.floats.proofs.SignLaws.{zero-under, zero-not-over, neg-le, neg-neg}
 use Rattle.floats.proofs.SwapLaws.{add-swap, mul-swap}
-use Rattle.floats.proofs.AddMono.{add-mono, add-mono-right}
+use Rattle.floats.proofs.AddMono.{add-mono, add-mono-right, sub-mono, sub-anti}
 use Rattle.floats.proofs.MulMono.{mul-mono, mul-anti, mul-neg}
 use Rattle.floats.proofs.NumberLaws.{add-number, scale-number}
 use Rattle.floats.proofs.NanLaws.{add-numbers, sub-numbers, square-number}
@@ -88,14 +88,6 @@ module _ (a ab : Float) where
 
 -- ---- differences
 
-sub-mono : (x y z : Float) → le x y ≡ true → isNan (sub binary64 x z) ≡ false → isNan (sub binary64 y z) ≡ false → le (sub binary64 x z) (sub binary64 y z) ≡ true
-unfolding sub
-sub-mono x y z h p q = add-mono binary64 x y (neg z) h p q
-
-sub-anti : (z x y : Float) → le x y ≡ true → isNan (sub binary64 z x) ≡ false → isNan (sub binary64 z y) ≡ false → le (sub binary64 z y) (sub binary64 z x) ≡ true
-unfolding sub
-sub-anti z x y h p q = add-mono-right binary64 z (neg y) (neg x) (neg-le x y h) q p
-
 -- z less p is a number: two infinities of one sign do not meet
 above-number : (z p hi r : Float) → le f0 r ≡ true → le p hi ≡ true → le r (sub binary64 z hi) ≡ true → isNan (sub binary64 z p) ≡ false
 unfolding sub add neg isNan le lt eq ofBits
@@ -135,10 +127,6 @@ below-number (fin u l c) (fin s m e) lo r R h k = add-number binary64 (fin u l c
 
 -- ---- squares
 
-no-zero : (t : Bool) (e : ℤ) → lt f0 (fin t zero e) ≡ true → ⊥
-unfolding ofBits
-no-zero t e h = never (sym (le-not-lt (fin t zero e) f0 (zero-under t e f0 tt)) ∙ h)
-
 -- a number above 0 and one not below it
 product-number : (r d : Float) → lt f0 r ≡ true → le r d ≡ true → isNan (mul binary64 d r) ≡ false
 unfolding mul isNan lt le eq ofBits
@@ -147,7 +135,7 @@ product-number (inf true) d R h = never R
 product-number (inf false) nan R h = never h
 product-number (inf false) (inf s) R h = refl
 product-number (inf false) (fin s m e) R h = never h
-product-number (fin t zero k) d R h = absurd (no-zero t k R)
+product-number (fin t zero k) d R h = absurd (zero-not-over t k f0 tt R)
 product-number (fin t (suc n) k) d R h = scale-number binary64 d (fin t (suc n) k) (le-numbers (fin t (suc n) k) d h .1) tt tt
 
 square-rises : (r d : Float) → lt f0 r ≡ true → le r d ≡ true → le (mul binary64 r r) (mul binary64 d d) ≡ true
@@ -187,13 +175,13 @@ module _ (a ab t p lo hi r : Float) (I : InUnit t) (L : le lo p ≡ true) (H : l
   over z h k =
       let n = above-number z p hi r (lt-to-le f0 r R) H k in
       square-rises r d R
-      (le-le r (sub binary64 z p) d (le-le r (sub binary64 z hi) (sub binary64 z p) k (sub-anti z p hi H n (le-numbers r (sub binary64 z hi) k .1))) (sub-mono z q p h n N))
+      (le-le r (sub binary64 z p) d (le-le r (sub binary64 z hi) (sub binary64 z p) k (sub-anti binary64 z p hi H n (le-numbers r (sub binary64 z hi) k .1))) (sub-mono binary64 z q p h n N))
 
   under : (z : Float) → le q z ≡ true → le (sub binary64 z lo) (neg r) ≡ true → le (mul binary64 r r) (mul binary64 d d) ≡ true
   under z h k =
       let n = below-number z p lo r (lt-to-le f0 r R) L k in
       square-falls r d R
-      (le-le d (sub binary64 z p) (neg r) (sub-mono q z p h N n) (le-le (sub binary64 z p) (sub binary64 z lo) (neg r) (sub-anti z lo p L (le-numbers (sub binary64 z lo) (neg r) k .0) n) k))
+      (le-le d (sub binary64 z p) (neg r) (sub-mono binary64 q z p h N n) (le-le (sub binary64 z p) (sub binary64 z lo) (neg r) (sub-anti binary64 z lo p L (le-numbers (sub binary64 z lo) (neg r) k .0) n) k))
 
   from-above : (x y : Float) → le r (sub binary64 x y) ≡ true → isNan x ≡ false
   from-above x y k = sub-numbers binary64 x y (le-numbers r (sub binary64 x y) k .1) .0

@@ -10,7 +10,7 @@ use lib.IntN.{pos}
 use lib.Ieee.{Float, fin, binary64, ofBits, add, sub, lt, le, isNan}
 use Rattle.loops.proofs.Cases.{by-cases, by-test, both}
 use Rattle.floats.proofs.OrderLaws.{le-le, le-numbers, le-not-lt, not-lt-le, le-lt}
-use Rattle.floats.proofs.AddMono.{add-mono, add-mono-right}
+use Rattle.floats.proofs.AddMono.{add-mono, add-mono-right, sub-mono, sub-anti}
 use Rattle.numbers.specs.Order.{isFinite}
 use Rattle.numbers.specs.Whole.{floorOf}
 use Rattle.numbers.specs.Root.{rootOf}
@@ -25,7 +25,7 @@ use Rattle.raster.proofs.RowLaws.{InRow, first-number, cols-in}
 use Rattle.spans.specs.Spans.{LiesIn, Covers}
 use Rattle.spans.specs.Ends.{belowOf, beyondOf, Tame, spanOf, mostOf, leastOf, aboutOf, Short, Wider, Narrower, Most, Least, Outer, Inner}
 use Rattle.spans.specs.declared.columns.Bounds.{Bounds}
-use Rattle.spans.proofs.MonoLaws.{between-finite, zero-number, add-some, sub-some, sub-mono, sub-anti, place-mono, floor-mono, first-mono, Within, cols-mono}
+use Rattle.spans.proofs.MonoLaws.{between-finite, zero-number, add-some, sub-some, place-mono, floor-mono, first-mono, Within, cols-mono}
 use Rattle.spans.proofs.EdgeLaws.{tame-size}
 
 -- ---- spans in one another
@@ -68,7 +68,7 @@ at-root x y z h =
 -- a and b lie before and after x, and h is at most k
 module _ (a x b h k : Float) (A : isFinite a ≡ true) (X : isFinite x ≡ true) (B : isFinite b ≡ true) (H : isNan h ≡ false) (K : isNan k ≡ false) (l : le h k ≡ true) where
   left-out : le a x ≡ true → le (sub binary64 a k) (sub binary64 x h) ≡ true
-  left-out u = le-le (sub binary64 a k) (sub binary64 x k) (sub binary64 x h) (sub-mono a x k u (sub-some a k A K) (sub-some x k X K)) (sub-anti x h k l (sub-some x h X H) (sub-some x k X K))
+  left-out u = le-le (sub binary64 a k) (sub binary64 x k) (sub binary64 x h) (sub-mono binary64 a x k u (sub-some a k A K) (sub-some x k X K)) (sub-anti binary64 x h k l (sub-some x h X H) (sub-some x k X K))
 
   right-out : le x b ≡ true → le (add binary64 x h) (add binary64 b k) ≡ true
   right-out u = le-le (add binary64 x h) (add binary64 x k) (add binary64 b k) (add-mono-right binary64 x h k l (add-some x h X H) (add-some x k X K)) (add-mono binary64 x b k u (add-some x k X K) (add-some b k B K))

@@ -11,6 +11,7 @@ use Rattle.loops.proofs.Cases.{by-cases, by-test, both, never}
 use Rattle.floats.proofs.OrderLaws.{le-le, le-refl, le-numbers, lt-to-le, not-lt-le, not-le-lt}
 use Rattle.floats.proofs.SignLaws.{zero-under}
 use Rattle.floats.proofs.SwapLaws.{mul-swap}
+use Rattle.floats.proofs.AddMono.{sub-anti}
 use Rattle.floats.proofs.MulMono.{mul-mono, mul-anti}
 use Rattle.floats.proofs.NumberLaws.{mul-number}
 use Rattle.floats.proofs.SquareLaws.{square-unsigned}
@@ -21,7 +22,7 @@ use Rattle.raster.specs.Disk.{rowY}
 use Rattle.raster.specs.declared.grid.Grid.{Grid}
 use Rattle.spans.specs.Ends.{belowOf, beyondOf, Small, Big, High, HighTo, heightOf, joinedOf}
 use Rattle.spans.specs.declared.heights.Heights.{Heights}
-use Rattle.spans.proofs.MonoLaws.{finite-of, finite-number, between-finite, zero-number, sub-some, sub-anti}
+use Rattle.spans.proofs.MonoLaws.{finite-of, finite-number, between-finite, zero-number, sub-some}
 
 abbrev square : Float → Float
 square x = mul binary64 x x
@@ -95,12 +96,12 @@ high-is r2 y lo hi big small R L H Y B S = record {
       let C = between-finite lo cy hi L H h k in
       let n = sub-some y cy Y (finite-number cy C) in
       let d = sub binary64 y cy in
-      let u : le (sub binary64 y hi) d ≡ true = sub-anti y cy hi k n (sub-some y hi Y (finite-number hi H)) in
-      let v : le d (sub binary64 y lo) ≡ true = sub-anti y lo cy h (sub-some y lo Y (finite-number lo L)) n in
+      let u : le (sub binary64 y hi) d ≡ true = sub-anti binary64 y cy hi k n (sub-some y hi Y (finite-number hi H)) in
+      let v : le d (sub binary64 y lo) ≡ true = sub-anti binary64 y lo cy h (sub-some y lo Y (finite-number lo L)) n in
       let b = B .at d u v in
       let s = S .at d u v in
       let m = sub-some r2 (square d) R (le-numbers (square d) big b .0) in
-      (sub-anti r2 (square d) big b m (sub-some r2 big R (B .number)), sub-anti r2 small (square d) s (sub-some r2 small R (S .number)) m);
+      (sub-anti binary64 r2 (square d) big b m (sub-some r2 big R (B .number)), sub-anti binary64 r2 small (square d) s (sub-some r2 small R (S .number)) m);
 }
 
 module _ (a b : Float) (p : isNan a ≡ false) (q : isNan b ≡ false) where

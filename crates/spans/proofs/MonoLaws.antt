@@ -12,10 +12,10 @@ use lib.Ieee.Nearest.{div-mono}
 use lib.Ieee.Scale.{finite}
 use Rattle.loops.proofs.Cases.{by-test, never, neither}
 use Rattle.floats.proofs.OrderLaws.{zero-of, le-le, le-lt, le-numbers, le-not-lt, lt-not-le, not-lt-le, not-le-lt}
-use Rattle.floats.proofs.SignLaws.{unsigned, neg-le, neg-number, zero-under, under-top, over-bottom}
+use Rattle.floats.proofs.SignLaws.{unsigned, neg-number, zero-not-over, under-top, over-bottom}
 use Rattle.floats.proofs.SwapLaws.{add-swap}
 use Rattle.floats.proofs.RoundMono.{round-le}
-use Rattle.floats.proofs.AddMono.{add-mono, add-mono-right}
+use Rattle.floats.proofs.AddMono.{sub-mono}
 use Rattle.floats.proofs.MulMono.{fin-le}
 use Rattle.floats.proofs.DivMono as DivMono
 use Rattle.floats.proofs.NumberLaws.{round-number, add-number, div-number}
@@ -80,14 +80,6 @@ from-finite : (x y : Float) → isNan x ≡ false → isFinite y ≡ true → is
 unfolding sub
 from-finite x y p q = ap isNan (add-swap binary64 x (neg y)) ∙ add-some (neg y) x (neg-finite y q) p
 
-pub sub-mono : (x y z : Float) → le x y ≡ true → isNan (sub binary64 x z) ≡ false → isNan (sub binary64 y z) ≡ false → le (sub binary64 x z) (sub binary64 y z) ≡ true
-unfolding sub
-sub-mono x y z h p q = add-mono binary64 x y (neg z) h p q
-
-pub sub-anti : (z x y : Float) → le x y ≡ true → isNan (sub binary64 z x) ≡ false → isNan (sub binary64 z y) ≡ false → le (sub binary64 z y) (sub binary64 z x) ≡ true
-unfolding sub
-sub-anti z x y h p q = add-mono-right binary64 z (neg y) (neg x) (neg-le x y h) q p
-
 -- ---- cell numbers
 
 -- a cell's size: a finite number above 0
@@ -102,15 +94,11 @@ size-unsigned (inf t) s = never (s .finite)
 size-unsigned (fin true m e) s = never (s .positive)
 size-unsigned (fin false m e) s = tt
 
-no-zero : (t : Bool) (e : ℤ) → lt f0 (fin t zero e) ≡ true → ⊥
-unfolding ofBits
-no-zero t e h = never (sym (le-not-lt (fin t zero e) f0 (zero-under t e f0 tt)) ∙ h)
-
 pub over-size : (x c : Float) → Size c → isNan x ≡ false → isNan (div binary64 x c) ≡ false
-unfolding isFinite isNan div
+unfolding isFinite isNan div ofBits
 over-size x nan s p = never (s .finite)
 over-size x (inf t) s p = never (s .finite)
-over-size x (fin t zero e) s p = absurd (no-zero t e (s .positive))
+over-size x (fin t zero e) s p = absurd (zero-not-over t e f0 tt (s .positive))
 over-size nan (fin t (suc n) e) s p = p
 over-size (inf u) (fin t (suc n) e) s p = refl
 over-size (fin u m d) (fin t (suc n) e) s p = div-number binary64 (fin u m d) (fin t (suc n) e) tt tt
@@ -131,13 +119,13 @@ module _ (o cell : Float) (O : isFinite o ≡ true) (S : Size cell) where
   pub share-mono : (x y : Float) → le x y ≡ true → le (div binary64 (sub binary64 x o) cell) (div binary64 (sub binary64 y o) cell) ≡ true
   share-mono x y h =
       let n = le-numbers x y h in
-      DivMono.div-mono binary64 (sub binary64 x o) (sub binary64 y o) cell (size-unsigned cell S) (sub-mono x y o h (from-finite x o (n .0) O) (from-finite y o (n .1) O)) (share-number x (n .0)) (share-number y (n .1))
+      DivMono.div-mono binary64 (sub binary64 x o) (sub binary64 y o) cell (size-unsigned cell S) (sub-mono binary64 x y o h (from-finite x o (n .0) O) (from-finite y o (n .1) O)) (share-number x (n .0)) (share-number y (n .1))
 
   pub place-mono : (x y : Float) → le x y ≡ true → le (cellAt x o cell) (cellAt y o cell) ≡ true
   unfolding cellAt
   place-mono x y h =
       let n = le-numbers x y h in
-      sub-mono (div binary64 (sub binary64 x o) cell) (div binary64 (sub binary64 y o) cell) half (share-mono x y h) (from-finite _ half (share-number x (n .0)) half-finite) (from-finite _ half (share-number y (n .1)) half-finite)
+      sub-mono binary64 (div binary64 (sub binary64 x o) cell) (div binary64 (sub binary64 y o) cell) half (share-mono x y h) (from-finite _ half (share-number x (n .0)) half-finite) (from-finite _ half (share-number y (n .1)) half-finite)
 
 -- ---- whole numbers
 
