@@ -65,7 +65,12 @@ impl Trials {
     pub fn new(p: &Planner, triples: usize) -> Trials {
         sided(p);
         let map: Vec<u8> = p.m.data.iter().map(|&b| b as u8).collect();
-        Trials { log: vec![7; map.len()], map, tables: Tables::new(p, p.r_guard), triples: vec![-1e300; 3 * triples] }
+        Trials {
+            log: vec![7; map.len()],
+            map,
+            tables: Tables::new(p, p.r_guard),
+            triples: vec![-1e300; 3 * triples],
+        }
     }
 
     /// `simulate` of the fields that a planner has, behind `kept` triples.

@@ -108,7 +108,9 @@ pub fn fill_tables(p: &Planner, wide: f64, w: &mut [f64]) {
     sided(p);
     assert!(p.samples <= 2048 && w.len() >= 8192);
     let o = p.m.origin;
-    unsafe { linked::setup_fill_tables(o.x, o.y, p.cell, p.nx, p.ny, p.r, wide, p.samples, w.as_mut_ptr(), w.len()) }
+    unsafe {
+        linked::setup_fill_tables(o.x, o.y, p.cell, p.nx, p.ny, p.r, wide, p.samples, w.as_mut_ptr(), w.len())
+    }
 }
 
 /// The tool's tables of a planner.

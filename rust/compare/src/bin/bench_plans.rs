@@ -263,6 +263,17 @@ fn middle(side: f64) -> (String, Job) {
     (format!("12 mm of stock in {side} mm"), job)
 }
 
+/// A round pocket of 48 mm, tool 6, engagement 90, as a polygon of so many vertices.
+fn round(vertices: usize) -> (String, Job) {
+    let mut params = AdaptiveParams::new(6.0, 0.0, -6.0, 1000.0);
+    params.max_engagement_deg = 90.0;
+    let mut job = Job::new(params);
+    job.pocket = vec![vertices];
+    let at = |k: usize| std::f64::consts::TAU * k as f64 / vertices as f64;
+    job.verts = (0..vertices).map(|k| v2(24.0 * at(k).cos(), 24.0 * at(k).sin())).collect();
+    (format!("{vertices} vertices"), job)
+}
+
 /// The machine, as it tells itself.
 fn machine() -> String {
     let read = |file: &str| std::fs::read_to_string(file).unwrap_or_default();
@@ -304,6 +315,7 @@ fn main() -> ExitCode {
     let finer = time([0.1, 0.07, 0.05, 0.035].map(|cell| square(18.0, cell)).to_vec());
     let wider = time([9.0, 18.0, 27.0, 36.0].map(|side| square(side, 0.1)).to_vec());
     let emptier = time([18.0, 36.0, 54.0, 90.0].map(middle).to_vec());
+    let rounder = time([64, 256, 1024, 4096].map(round).to_vec());
     jobs.push(sum(&jobs));
     println!("{}; {threads} threads.\n\n### The larger jobs\n", machine());
     print_times(&jobs);
@@ -315,5 +327,7 @@ fn main() -> ExitCode {
     print_times(&wider);
     println!("\n### The same stock, larger maps\n");
     print_times(&emptier);
+    println!("\n### The same pocket, more vertices\n");
+    print_times(&rounder);
     ExitCode::SUCCESS
 }
