@@ -15,7 +15,7 @@ use Rattle.loops.proofs.Cases.{by-cases, never}
 use Rattle.dilation.specs.declared.window.Window.{Window}
 use Rattle.distance.specs.Least.{far, at, gap, apart}
 use Rattle.distance.specs.Limits.{scaledOf, passesOf}
-use Rattle.distance.specs.Nearest.{nearest, squaresOf}
+use Rattle.distance.specs.Nearest.{nearest}
 use Rattle.distance.specs.Rooted.{rootedOf}
 use Rattle.distance.specs.declared.limits.Limit.{Limit}
 use Rattle.distance.specs.declared.limits.Threshold.{Threshold}

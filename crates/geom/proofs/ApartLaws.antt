@@ -5,7 +5,7 @@ use mathlib.Core.Bool.{Bool, true, false, _||_, cond}
 use mathlib.Core.List.{List}
 use Prim.Native.Nat.{ℕ, zero, suc, _+_, _≤_}
 use native.Mathlib.Omega.{arith}
-use lib.IntN.{ℤ, pos}
+use lib.IntN.{pos}
 use lib.Ieee.{Float, nan, inf, fin, binary64, ofBits, add, sub, mul, neg, lt, le, eq, isNan}
 use Rattle.loops.specs.Loop.{orAt, any}
 use Rattle.loops.proofs.Cases.{by-cases, by-test, never, both, either}

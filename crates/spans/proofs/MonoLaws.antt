@@ -1,5 +1,5 @@
 -- The arithmetic of a chord keeps the order, step by step: differences, cell numbers, whole numbers from them on, and the columns between those. Assumes nothing.
-use mathlib.Core.Path.{_≡_, refl, sym, ap, _∙_}
+use mathlib.Core.Path.{_≡_, refl, ap, _∙_}
 use mathlib.Core.Bool.{Bool, true, false, cond, _||_}
 use Prim.Native.Nat.{ℕ, zero, suc, _+_, _-_, _*_, _/_, _≤_, _<_, min}
 use native.Mathlib.Nat.{zero-div, mul-right-comm, mul-le-mul-right, add-mul, le-of-mul-le-mul-right, lt-div-mul-add, div-lt-iff-lt-mul}

@@ -1,7 +1,5 @@
 -- `contours::quiet::is_quiet` meets its contract. Assumes nothing.
-use Prim.Native.Nat.{_+_, _*_, _≤_}
 use native.Mathlib.Omega.{arith}
-use lib.ListN.{length}
 use Rattle.contours.proofs.QuietLaws.{run-below, lacks-sign}
 use Rattle.contours.proofs.quiet.is_quiet.Statement.{statement}
 use Rattle.contours.proofs.quiet.is_quiet.Tie as tie

@@ -8,7 +8,6 @@ use Rattle.field.specs.Field.{sensed, fieldCell}
 use Rattle.field.specs.Gauge.{Sensing}
 use Rattle.field.proofs.FieldLaws.{Swept, row-run}
 use Rattle.field.proofs.GaugeLaws.{known-along}
-use borrow.Author.Needs.{needs}
 use Rattle.field.proofs.rows.field_cells.Statement.{statement}
 use Rattle.field.proofs.rows.field_cells.Tie as tie
 

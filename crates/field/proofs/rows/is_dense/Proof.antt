@@ -1,5 +1,5 @@
 -- `field::rows::is_dense` meets its contract. Assumes nothing.
-use Prim.Native.Nat.{_+_, _-_, _≤_}
+use Prim.Native.Nat.{_-_, _≤_}
 use native.Mathlib.Omega.{arith}
 use borrow.Author.Needs.{needs}
 use Rattle.field.proofs.rows.is_dense.Statement.{statement}

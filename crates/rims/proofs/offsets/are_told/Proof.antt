@@ -1,6 +1,6 @@
 -- `rims::offsets::are_told` meets its contract. Assumes nothing.
 use mathlib.Core.Path.{_≡_, subst}
-use Prim.Native.Nat.{ℕ, _+_, _-_, _≤_}
+use Prim.Native.Nat.{ℕ, _-_, _≤_}
 use native.Mathlib.Omega.{arith}
 use Rattle.loops.proofs.Cases.{never}
 use Rattle.rims.specs.Offsets.{AllTold}
