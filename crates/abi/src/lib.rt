@@ -1,5 +1,7 @@
 // The functions of the layers under C names, for the comparison with the Rust (rust/compare). What a
 // station links is another crate.
+#![tactic(auto)]
+
 pub mod of_contours;
 pub mod of_cutting;
 pub mod of_distance;

@@ -1,12 +1,14 @@
 // Document 01's bench: its lines on standard input, its answers on standard output. The input is read as it
 // comes, so that a line is answered when it has been read, and no line is kept, so that its length does not
 // matter.
+#![tactic(auto)]
+
 ghost use Rattle.bench_lines.specs.Obey.{Fit};
 
 use bench_talk::Talk;
 use libc::STDIN_FILENO;
 
-#[derive(Drop)]
+#[derive(Clone, Copy)]
 struct Part {
     talk: Talk,
     more: bool,

@@ -1,13 +1,15 @@
 // The bench on many inputs, which standard input has one behind the other: a byte 30, a name up to a line
 // feed, then what the bench is to read. Each case prints its name and then what the bench answers; `stdout`
 // has the answers as worked out by hand, so a wrong one fails the check.
+#![tactic(auto)]
+
 ghost use Rattle.std.specs.Prelude.{◌≡◌};
 ghost use Rattle.bench_lines.specs.Obey.{Fit, no_map};
 
 use bench_talk::Talk;
 use libc::{STDIN_FILENO, STDOUT_FILENO};
 
-#[derive(Drop)]
+#[derive(Clone, Copy)]
 struct Cases {
     talk: Talk,
     // There is a case, and its name is still being read.
@@ -15,7 +17,7 @@ struct Cases {
     naming: bool,
 }
 
-#[derive(Drop)]
+#[derive(Clone, Copy)]
 struct Part {
     cases: Cases,
     more: bool,

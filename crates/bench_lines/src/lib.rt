@@ -1,4 +1,6 @@
 // The bench's lines without its input and output: what a line says, and what it does to the map.
+#![tactic(auto)]
+
 mod line;
 pub mod obey;
 pub mod reader;

@@ -4,7 +4,7 @@ ghost use Rattle.bench_lines.specs.Line.{side_of, map_of, pass_of, undo_of, word
 
 use super::words::Words;
 
-#[derive(Drop)]
+#[derive(Clone, Copy)]
 pub enum Line {
     // Columns and rows.
     Map(usize, usize),

@@ -9,7 +9,7 @@ use geom::vec2::Vec2;
 use raster::grid::Grid;
 
 // Before the first map the grid is one cell, so that it is always one.
-#[derive(Drop)]
+#[derive(Clone, Copy)]
 pub struct Bench {
     pub nx: usize,
     pub ny: usize,
@@ -21,7 +21,7 @@ pub struct Bench {
 }
 
 // Standing cells last.
-#[derive(Drop)]
+#[derive(Clone, Copy)]
 pub enum Answer {
     Started(usize),
     Removed(usize, usize),
@@ -29,7 +29,7 @@ pub enum Answer {
     Wrong,
 }
 
-#[derive(Drop)]
+#[derive(Clone, Copy)]
 pub struct Done {
     pub bench: Bench,
     pub answer: Answer,

@@ -3,7 +3,7 @@
 ghost use Rattle.std.specs.Prelude.{◌≡◌};
 ghost use Rattle.bench_lines.specs.Words.{no_words, spoilt, next_field, letter_of, first_digit, later_digit, digit_of, step_of};
 
-#[derive(Drop)]
+#[derive(Clone, Copy)]
 pub struct Words {
     pub bad: bool,
     // Nothing yet of the present field.

@@ -1,4 +1,6 @@
 // The bench's answers on standard output, for the bytes of its input as they come.
+#![tactic(auto)]
+
 ghost use Rattle.std.specs.Prelude.{◌≡◌, ℕ, List};
 ghost use Rattle.bench_lines.specs.Obey.{Fit, no_map};
 ghost use Rattle.bench_lines.specs.Reader.{Heard, silent, is_wrong, line_heard, byte_heard, heard_of, end_heard};
@@ -9,7 +11,7 @@ use bench_lines::reader::line_end;
 use bench_lines::words::{Words, begin, step};
 use libc::STDOUT_FILENO;
 
-#[derive(Drop)]
+#[derive(Clone, Copy)]
 pub struct Talk {
     pub bench: Bench,
     pub words: Words,

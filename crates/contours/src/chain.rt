@@ -15,7 +15,7 @@ use pieces::row::{Count, Row, put_row};
 use raster::grid::Grid;
 
 // How many points of a chain are kept, and the last of them.
-#[derive(Drop)]
+#[derive(Clone, Copy)]
 pub struct Trail {
     pub kept: usize,
     pub last: Vec2,
@@ -39,7 +39,7 @@ fn extend(pts: &mut [f64], first: usize, t: Trail, p: Vec2) -> Trail
 }
 
 // A chain's points, and whether it comes back to its first edge.
-#[derive(Drop)]
+#[derive(Clone, Copy)]
 pub struct Chained {
     pub kept: usize,
     pub closed: bool,

@@ -8,7 +8,7 @@ use geom::vec2::Vec2;
 use raster::grid::{CellNo, Grid, cell_at, center, column_of, index_of, row_of};
 
 // The number of an edge, or NOTHING where there is none.
-#[derive(Drop)]
+#[derive(Clone, Copy)]
 pub struct EdgeNo(pub u32);
 
 pub const NOTHING: u32 = 4294967295;

@@ -1,4 +1,6 @@
 // The curves where a field of the cells crosses a level (`contours` of adaptive.rs).
+#![tactic(auto)]
+
 mod chain;
 mod edge;
 mod march;

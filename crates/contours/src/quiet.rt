@@ -6,7 +6,7 @@ ghost use Rattle.contours.specs.Quiet.{InRow, Quiet, signs_of};
 use raster::grid::Grid;
 
 // Whether a value is above a level, and whether one is at it or below.
-#[derive(Drop)]
+#[derive(Clone, Copy)]
 struct Signs {
     above: bool,
     below: bool,

@@ -9,7 +9,7 @@ use geom::vec2::Vec2;
 use raster::grid::{Grid, cell_no, center, index_of};
 
 // The lower left column and row, and the field at the corners.
-#[derive(Drop)]
+#[derive(Clone, Copy)]
 pub struct Square {
     pub i: usize,
     pub j: usize,
@@ -19,7 +19,7 @@ pub struct Square {
     pub v3: f32,
 }
 
-#[derive(Drop)]
+#[derive(Clone, Copy)]
 pub struct Edges {
     pub bottom: EdgeNo,
     pub right: EdgeNo,
@@ -27,26 +27,26 @@ pub struct Edges {
     pub left: EdgeNo,
 }
 
-#[derive(Drop)]
+#[derive(Clone, Copy)]
 pub struct Segment {
     pub from: EdgeNo,
     pub to: EdgeNo,
 }
 
 // The two segments of a saddle.
-#[derive(Drop)]
+#[derive(Clone, Copy)]
 pub struct Saddle {
     pub first: Segment,
     pub second: Segment,
 }
 
-#[derive(Drop)]
+#[derive(Clone, Copy)]
 pub struct Corner {
     pub at: Vec2,
     pub v: f32,
 }
 
-#[derive(Drop)]
+#[derive(Clone, Copy)]
 pub struct Corners {
     pub c0: Corner,
     pub c1: Corner,
@@ -55,7 +55,7 @@ pub struct Corners {
 }
 
 // The nearest corner so far.
-#[derive(Drop)]
+#[derive(Clone, Copy)]
 pub struct Near {
     pub corner: Corner,
     pub distance: f64,

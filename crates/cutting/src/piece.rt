@@ -25,7 +25,7 @@ use setup::{Setup, layout};
 
 // What planning holds by value: where the tool is, how many rows and triples are listed, the greatest
 // contact of a listed point, and the work.
-#[derive(Drop)]
+#[derive(Clone, Copy)]
 pub struct State {
     pub pos: Place,
     pub rows: usize,
@@ -35,7 +35,7 @@ pub struct State {
 }
 
 // What became of a piece: nothing worth it, a pass kept, or document 01's refusal 16 or 17.
-#[derive(Drop)]
+#[derive(Clone, Copy)]
 pub enum Cut {
     Nothing(State),
     Kept(State),

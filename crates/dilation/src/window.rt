@@ -11,7 +11,7 @@ use distance::columns::NONE;
 use distance::limits::Limit;
 
 // The rows from lo on, before hi, and of these the columns from left on, before right.
-#[derive(Drop)]
+#[derive(Clone, Copy)]
 pub struct Window {
     pub lo: usize,
     pub hi: usize,
@@ -20,7 +20,7 @@ pub struct Window {
 }
 
 // Bounds of squares: a cell is told to be nearer to a mark than both, than the farther one, or than none.
-#[derive(Drop)]
+#[derive(Clone, Copy)]
 pub struct Bounds {
     pub near: u32,
     pub far: u32,

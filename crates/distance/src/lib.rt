@@ -1,6 +1,8 @@
 // The exact Euclidean distance transform of a map of marks, in whole numbers (Felzenszwalb and
 // Huttenlocher; the whole-number steps are Meijster's): the rows to the nearest mark of each
 // column, then the lower envelope of a row's parabolas.
+#![tactic(auto)]
+
 ghost use Rattle.std.specs.Prelude.{◌≡◌, ◌+◌, ◌*◌, ◌≤◌, length};
 ghost use Rattle.distance.specs.Least.{Transformed, MapSides};
 ghost use Rattle.distance.specs.Nearest.{transform_of};

@@ -7,7 +7,7 @@ ghost use Rattle.distance.specs.Limits.{scaled_of, passes_of, Splits, Ordered, L
 use super::roots::distance_of;
 
 // A distance, times scale if scaled, is to be at most x, or below x if strict.
-#[derive(Drop)]
+#[derive(Clone, Copy)]
 pub struct Threshold {
     pub scaled: bool,
     pub scale: f64,
@@ -15,7 +15,7 @@ pub struct Threshold {
     pub x: f64,
 }
 
-#[derive(Drop)]
+#[derive(Clone, Copy)]
 pub struct Limit {
     pub told: bool,
     pub below: u32,

@@ -14,7 +14,7 @@ use raster::grid::{Grid, Raster};
 use setup::layout::cells;
 
 // How long the lent slices of the workspace are.
-#[derive(Drop)]
+#[derive(Clone, Copy)]
 pub struct Lengths {
     pub bytes: usize,
     pub words: usize,
@@ -23,7 +23,7 @@ pub struct Lengths {
 }
 
 // Document 01's number of the question that is answered no, or the raster.
-#[derive(Drop)]
+#[derive(Clone, Copy)]
 pub enum Judged {
     Refused(u32),
     Fit(Grid),

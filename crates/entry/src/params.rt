@@ -3,14 +3,14 @@ ghost use Rattle.std.specs.Prelude.{◌≡◌};
 ghost use Rattle.entry.specs.Questions.{cell_of, helix_of};
 
 // A setting that may be left out.
-#[derive(Drop)]
+#[derive(Clone, Copy)]
 pub enum Setting {
     Absent,
     Given(f64),
 }
 
 // Lengths are mm, angles degrees, feeds mm a minute.
-#[derive(Drop)]
+#[derive(Clone, Copy)]
 pub struct AdaptiveParams {
     pub tool_diameter: f64,
     pub max_engagement_deg: f64,

@@ -7,7 +7,7 @@ use geom::vec2::Vec2;
 
 // A row as it is read: the floats of its kind. A cut has many, and carries its first triple's number
 // and their count.
-#[derive(Drop)]
+#[derive(Clone, Copy)]
 pub enum Read {
     Helix(Vec2, f64),
     Plunge(Vec2),

@@ -1,5 +1,7 @@
 // Document 01's examples of whole jobs, a line each. The pocket is three equal vertices: a raster of 5 by 5 cells,
 // without stock.
+#![tactic(auto)]
+
 ghost use Rattle.std.specs.Prelude.{◌≡◌};
 ghost use Rattle.examples.specs.Examples.{answer_to, chunks_of, guard_half};
 

@@ -10,7 +10,7 @@ use raster::grid::Grid;
 use rims::tiles::gather_rows;
 
 // The rows, or the columns, from lo on, before hi.
-#[derive(Drop)]
+#[derive(Clone, Copy)]
 pub struct Band {
     pub lo: usize,
     pub hi: usize,

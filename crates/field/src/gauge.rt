@@ -14,7 +14,7 @@ use rims::hits::centre_hits;
 use setup::Setup;
 
 // A bound of distances, and the limit of their squares.
-#[derive(Drop)]
+#[derive(Clone, Copy)]
 pub struct Test {
     pub bound: Threshold,
     pub limit: Limit,
@@ -22,7 +22,7 @@ pub struct Test {
 
 // What a round fixes: `far` tells cells that no stock is near to, `deep` those deep in stock, `near` those
 // that a cut since the last round changed, unless all are worked out anew; `full` is a full turn.
-#[derive(Drop)]
+#[derive(Clone, Copy)]
 pub struct Gauge {
     pub setup: Setup,
     pub all: bool,
@@ -33,14 +33,14 @@ pub struct Gauge {
 }
 
 // The hits of the rim around a cell's centre, where they are told already.
-#[derive(Drop)]
+#[derive(Clone, Copy)]
 pub struct Known {
     pub told: bool,
     pub hits: usize,
 }
 
 // The field at a cell, and whether it was sampled.
-#[derive(Drop)]
+#[derive(Clone, Copy)]
 pub struct Value {
     pub v: f32,
     pub sampled: bool,

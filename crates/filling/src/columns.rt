@@ -6,7 +6,7 @@ use super::crossings::{next_crossing, pair_from};
 use raster::grid::Grid;
 
 // Columns from the first on below the second; or those whose bytes are 1.
-#[derive(Drop)]
+#[derive(Clone, Copy)]
 pub enum Columns {
     Run(usize, usize),
     Many,

@@ -9,7 +9,7 @@ use raster::grid::Grid;
 
 // Two crossings of a row lie before columns a and b, in order; the next edge that crosses it is `next`, the loop's
 // length where none does. A crossing without a second one is paired with column 0.
-#[derive(Drop)]
+#[derive(Clone, Copy)]
 pub struct Pair {
     pub a: usize,
     pub b: usize,

@@ -8,7 +8,7 @@ use raster::grid::{CellNo, cell_at};
 use setup::layout;
 
 // A cell and its distance from the walls.
-#[derive(Drop)]
+#[derive(Clone, Copy)]
 pub enum Far {
     Nothing,
     Cell(CellNo, f64),

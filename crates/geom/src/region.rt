@@ -6,14 +6,14 @@ ghost use Rattle.geom.specs.Region.{vertex_of, straddles_of, crossing_of, turned
 use super::vec2::Vec2;
 
 // `at` is its first vertex, `first` the place of its first loop's length.
-#[derive(Drop)]
+#[derive(Clone, Copy)]
 pub struct Region {
     pub at: usize,
     pub first: usize,
     pub loops: usize,
 }
 
-#[derive(Drop)]
+#[derive(Clone, Copy)]
 pub struct Corners {
     pub lo: Vec2,
     pub hi: Vec2,

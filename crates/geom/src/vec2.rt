@@ -3,7 +3,7 @@ ghost use Rattle.std.specs.Prelude.{◌≡◌};
 ghost use Rattle.geom.specs.Vec.{sum, difference, scaled, lerp_of, dot_of, cross_of, perp_of, square_of, distance_of, length_of, normalized_of, from_angle};
 
 #[repr(C)]
-#[derive(Drop)]
+#[derive(Clone, Copy)]
 pub struct Vec2 {
     pub x: f64,
     pub y: f64,

@@ -20,7 +20,7 @@ use setup::{Setup, layout};
 
 // What became of the search for an entry: a helix, no room for one, or document 01's refusal 16 or 17; with
 // how many places were given up.
-#[derive(Drop)]
+#[derive(Clone, Copy)]
 pub enum Entered {
     Bored(State, usize),
     NoRoom(usize),

@@ -12,7 +12,7 @@ use numbers::circle::TAU;
 use setup::Setup;
 
 // A radius that fits.
-#[derive(Drop)]
+#[derive(Clone, Copy)]
 pub enum Radius {
     Of(f64),
     Nothing,

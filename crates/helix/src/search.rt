@@ -13,7 +13,7 @@ use raster::grid::{center, column_of, row_of};
 use setup::Setup;
 
 // A place tried: a radius fits there, or it is given up; or there is none.
-#[derive(Drop)]
+#[derive(Clone, Copy)]
 pub enum Attempt {
     Nothing,
     Fits(Vec2, f64),
@@ -21,7 +21,7 @@ pub enum Attempt {
 }
 
 // Centre and radius of a helix, if there is one, and how many places were given up before.
-#[derive(Drop)]
+#[derive(Clone, Copy)]
 pub enum Found {
     Helix(Vec2, f64, usize),
     Nothing(usize),

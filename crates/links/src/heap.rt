@@ -7,7 +7,7 @@ ghost use Rattle.links.specs.Sift.{Risen, Lesser, Sunk};
 use super::{NodeNo, index_of_node, node_in, put_node};
 use numbers::order::Ordering;
 
-#[derive(Drop)]
+#[derive(Clone, Copy)]
 pub struct Entry {
     pub est: f64,
     pub node: NodeNo,

@@ -12,7 +12,7 @@ use raster::grid::{CellNo, Grid};
 use setup::Setup;
 
 // `end` is the goal's centre. A free node is farther than `margin` from stock, in cells.
-#[derive(Drop)]
+#[derive(Clone, Copy)]
 pub struct Lattice {
     pub grid: Grid,
     pub k: usize,
@@ -25,7 +25,7 @@ pub struct Lattice {
 }
 
 // A neighbour, or none there.
-#[derive(Drop)]
+#[derive(Clone, Copy)]
 pub enum Neighbour {
     Off,
     At(NodeNo),

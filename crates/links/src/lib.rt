@@ -1,4 +1,6 @@
 // Links through cleared space (`link_path` of the Rust).
+#![tactic(auto)]
+
 ghost use Rattle.std.specs.Prelude.{◌≡◌, ◌<◌, eqb, length, set};
 ghost use Rattle.links.specs.Node.{node_in};
 ghost use Rattle.links.specs.Search.{no_node};
@@ -11,7 +13,7 @@ mod search;
 pub mod straight;
 
 // The number of a node of the search's lattice.
-#[derive(Drop)]
+#[derive(Clone, Copy)]
 pub struct NodeNo(pub u32);
 
 // Stands for no node.

@@ -22,7 +22,7 @@ use raster::grid::Found;
 use setup::{Setup, layout};
 
 // A way of so many points, or none; and the work of its search.
-#[derive(Drop)]
+#[derive(Clone, Copy)]
 pub enum Route {
     Along(usize, usize),
     Lost(usize),

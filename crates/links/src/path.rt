@@ -21,14 +21,14 @@ use geom::vec2::Vec2;
 use setup::{Setup, layout};
 
 // A point in view, by its number.
-#[derive(Drop)]
+#[derive(Clone, Copy)]
 pub enum Seen {
     Nothing,
     Point(usize),
 }
 
 // How many points a shortened path has.
-#[derive(Drop)]
+#[derive(Clone, Copy)]
 pub enum Shortened {
     Blocked,
     Points(usize),

@@ -18,14 +18,14 @@ use setup::fill::{fill_doubles, fill_words};
 use setup::layout;
 
 // Whether the goal was reached, and how many nodes were expanded.
-#[derive(Drop)]
+#[derive(Clone, Copy)]
 pub struct Sought {
     pub found: bool,
     pub expanded: usize,
 }
 
 // What a turn of the search leads to: that many open entries, or the answer.
-#[derive(Drop)]
+#[derive(Clone, Copy)]
 pub enum Turn {
     On(usize),
     Out(Sought),

@@ -8,7 +8,7 @@ ghost use Rattle.numbers.specs.Bound.{Bounds, Square, separated, bound_from, bou
 use super::root::sqrt;
 
 // From(h): the root of x is below r exactly where x is below h. Untold: none was found.
-#[derive(Drop)]
+#[derive(Clone, Copy)]
 pub enum Bound {
     From(f64),
     Untold,

@@ -18,7 +18,7 @@ use setup::{Setup, layout};
 
 // What became of a guide: the triples of its pass do not fit; a pass of so many points that is to be kept,
 // the cells that it removes and the work; or no such pass, and the work.
-#[derive(Drop)]
+#[derive(Clone, Copy)]
 pub enum Attempt {
     Full,
     Worth(usize, usize, usize),

@@ -16,7 +16,7 @@ use setup::Setup;
 use setup::place::bite_of;
 
 // How a guide is bent: over what length, and how far out at its start.
-#[derive(Drop)]
+#[derive(Clone, Copy)]
 pub enum Blend {
     By(f64, f64),
     Nothing,

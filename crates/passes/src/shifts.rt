@@ -12,21 +12,21 @@ use setup::Setup;
 use setup::place::bite_of;
 
 // Contact at a place, where the tool may be there.
-#[derive(Drop)]
+#[derive(Clone, Copy)]
 pub enum Probe {
     Counted(Contact),
     Barred,
 }
 
 // A place with the angle of its contact, and its shift.
-#[derive(Drop)]
+#[derive(Clone, Copy)]
 pub enum Shift {
     At(Vec2, f64, f64),
     Nothing,
 }
 
 // What a search found, and the work so far.
-#[derive(Drop)]
+#[derive(Clone, Copy)]
 pub struct Search {
     pub found: Shift,
     pub work: usize,

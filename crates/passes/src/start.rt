@@ -10,14 +10,14 @@ use geom::vec2::Vec2;
 use numbers::order::{Ordering, total_cmp};
 
 // Where the tool is; at first it is nowhere.
-#[derive(Drop)]
+#[derive(Clone, Copy)]
 pub enum Place {
     At(Vec2),
     Nowhere,
 }
 
 // A point's number, and how far it is.
-#[derive(Drop)]
+#[derive(Clone, Copy)]
 struct Near {
     at: usize,
     far: f64,

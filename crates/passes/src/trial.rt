@@ -15,7 +15,7 @@ use setup::Setup;
 use spans::crescent::clear_crescent;
 
 // A straight part of the guide, its free side and its samples; none where it has no length.
-#[derive(Drop)]
+#[derive(Clone, Copy)]
 pub struct Leg {
     pub a: Vec2,
     pub b: Vec2,
@@ -25,7 +25,7 @@ pub struct Leg {
 
 // What a pass has come to, beside the map, the log and the triples: `full` where the triples do not fit,
 // its points, the cells it cleared, the work, and the last point with its shift.
-#[derive(Drop)]
+#[derive(Clone, Copy)]
 pub struct Trial {
     pub full: bool,
     pub points: usize,

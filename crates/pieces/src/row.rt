@@ -3,7 +3,7 @@
 ghost use Rattle.std.specs.Prelude.{◌≡◌, ◌+◌, ◌*◌, ◌<◌, length};
 ghost use Rattle.pieces.specs.Piece.{row_at, put_row};
 
-#[derive(Drop)]
+#[derive(Clone, Copy)]
 pub struct Row {
     pub first: u32,
     pub points: u32,
@@ -11,7 +11,7 @@ pub struct Row {
 }
 
 // How many pieces there are, and points in all.
-#[derive(Drop)]
+#[derive(Clone, Copy)]
 pub struct Count {
     pub pieces: usize,
     pub points: usize,

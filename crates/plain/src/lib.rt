@@ -1,5 +1,7 @@
 // Plain forms of what the layers do with fewer operations, under the same contracts. They are here to be
 // timed beside those and nothing of the planner calls them.
+#![tactic(auto)]
+
 ghost use Rattle.std.specs.Prelude.{◌≡◌, length};
 ghost use Rattle.raster.specs.Grid.{Over};
 ghost use Rattle.raster.specs.Stock.{count_disk};

@@ -12,7 +12,7 @@ use setup::Setup;
 
 // What planning holds by value besides: whether the whole field is to be worked out anew, how many places
 // of a helix were given up, and whether the ring was cut since the last pass.
-#[derive(Drop)]
+#[derive(Clone, Copy)]
 pub struct Progress {
     pub state: State,
     pub all: bool,
@@ -22,7 +22,7 @@ pub struct Progress {
 
 // How a part of a round leaves it: the round goes on, the next one begins, the plan is done, or document
 // 01's refusal.
-#[derive(Drop)]
+#[derive(Clone, Copy)]
 pub enum Step {
     Next(Progress),
     Again(Progress),

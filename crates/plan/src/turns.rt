@@ -16,7 +16,7 @@ const MAX_ROUNDS: usize = 10000;
 const MAX_WORK: usize = 2000000000;
 
 // How a plan ends: what it came to, and whether its budget was spent; or document 01's refusal 16 or 17.
-#[derive(Drop)]
+#[derive(Clone, Copy)]
 pub enum Ended {
     Finished(Progress, bool),
     Refused(u32),

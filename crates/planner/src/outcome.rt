@@ -23,7 +23,7 @@ use setup::layout::cells;
 use start::ready::{make_ready, setup_of};
 
 // Document 01's number of a refusal, or the report of the plan.
-#[derive(Drop)]
+#[derive(Clone, Copy)]
 pub enum Answer {
     Refused(u32),
     Accepted(AdaptiveReport),

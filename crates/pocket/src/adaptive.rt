@@ -11,7 +11,7 @@ use planner::outcome::{Answer, adaptive_clear};
 use report::report::AdaptiveReport;
 
 #[repr(C)]
-#[derive(Drop)]
+#[derive(Clone, Copy)]
 pub struct PocketSetting {
     pub given: bool,
     pub value: f64,
@@ -19,7 +19,7 @@ pub struct PocketSetting {
 
 // `AdaptiveParams` as C has it.
 #[repr(C)]
-#[derive(Drop)]
+#[derive(Clone, Copy)]
 pub struct PocketParams {
     pub tool_diameter: f64,
     pub max_engagement_deg: f64,
@@ -39,7 +39,7 @@ pub struct PocketParams {
 }
 
 #[repr(C)]
-#[derive(Drop)]
+#[derive(Clone, Copy)]
 pub struct PocketAnswer {
     pub refused: u32,
     pub report: AdaptiveReport,

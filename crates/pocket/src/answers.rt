@@ -5,68 +5,68 @@ ghost use Rattle.pocket.specs.Answers.{of_count, of_number, of_single, of_rim, o
 
 use raster::contact::Contact;
 
-#[derive(Drop)]
+#[derive(Clone, Copy)]
 pub enum Count {
     Refused(u32),
     Of(usize),
 }
 
-#[derive(Drop)]
+#[derive(Clone, Copy)]
 pub enum Number {
     Refused(u32),
     Of(f64),
 }
 
-#[derive(Drop)]
+#[derive(Clone, Copy)]
 pub enum Single {
     Refused(u32),
     Of(f32),
 }
 
 // Points of a tool's rim, hit and sampled.
-#[derive(Drop)]
+#[derive(Clone, Copy)]
 pub enum Rim {
     Refused(u32),
     Of(Contact),
 }
 
 // Column and row of a cell; nothing off the grid.
-#[derive(Drop)]
+#[derive(Clone, Copy)]
 pub enum Cell {
     Refused(u32),
     Nothing,
     At(usize, usize),
 }
 
-#[derive(Drop)]
+#[derive(Clone, Copy)]
 pub enum Done {
     Refused(u32),
     Finished,
 }
 
 #[repr(C)]
-#[derive(Drop)]
+#[derive(Clone, Copy)]
 pub struct PocketCount {
     pub refused: u32,
     pub count: usize,
 }
 
 #[repr(C)]
-#[derive(Drop)]
+#[derive(Clone, Copy)]
 pub struct PocketNumber {
     pub refused: u32,
     pub value: f64,
 }
 
 #[repr(C)]
-#[derive(Drop)]
+#[derive(Clone, Copy)]
 pub struct PocketSingle {
     pub refused: u32,
     pub value: f32,
 }
 
 #[repr(C)]
-#[derive(Drop)]
+#[derive(Clone, Copy)]
 pub struct PocketRim {
     pub refused: u32,
     pub hits: usize,
@@ -74,7 +74,7 @@ pub struct PocketRim {
 }
 
 #[repr(C)]
-#[derive(Drop)]
+#[derive(Clone, Copy)]
 pub struct PocketCell {
     pub refused: u32,
     pub found: bool,

@@ -1,5 +1,7 @@
 // What a station links (c/pocket.h): the planner, and document 01's public leaves called alone, under C names. Nothing
 // is required of a caller; whatever is unfit is refused by its number.
+#![tactic(auto)]
+
 pub mod adaptive;
 pub mod answers;
 pub mod far;

@@ -1,4 +1,6 @@
 // Fingerprints of what is compared with stored answers: h becomes 48271 h + v, by the remainder of 2^31 - 1, for each value in turn.
+#![tactic(auto)]
+
 ghost use Rattle.std.specs.Prelude.{◌≡◌, ◌≤◌, length};
 ghost use Rattle.prints.specs.Print.{mixed, print_of, floats_of};
 

@@ -10,7 +10,7 @@ use numbers::cast::float_of;
 use numbers::circle::TAU;
 
 // Points of a tool's rim: how many were hit, being over stock, of how many sampled.
-#[derive(Drop)]
+#[derive(Clone, Copy)]
 pub struct Contact {
     pub hits: usize,
     pub samples: usize,

@@ -11,18 +11,18 @@ use geom::vec2::Vec2;
 use numbers::cast::float_of;
 
 // Columns from the first to the second, both in, or none.
-#[derive(Drop)]
+#[derive(Clone, Copy)]
 pub enum Span {
     Empty,
     Cols(usize, usize),
 }
 
 // The first row and the last. Of a disk that reaches no row the first may come after the last, as far as usize goes.
-#[derive(Drop)]
+#[derive(Clone, Copy)]
 pub struct Rows(pub usize, pub usize);
 
 // The columns of a row in a crescent: at most two spans.
-#[derive(Drop)]
+#[derive(Clone, Copy)]
 pub struct Crescent {
     pub left: Span,
     pub right: Span,

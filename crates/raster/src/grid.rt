@@ -6,7 +6,7 @@ use geom::vec2::Vec2;
 use numbers::cast::float_of;
 
 #[repr(C)]
-#[derive(Drop)]
+#[derive(Clone, Copy)]
 pub struct Grid {
     // Lower-left corner of cell (0, 0).
     pub origin: Vec2,
@@ -16,18 +16,18 @@ pub struct Grid {
 }
 
 // The number of a cell.
-#[derive(Drop)]
+#[derive(Clone, Copy)]
 pub struct CellNo(pub u32);
 
 // The cell at a point, as column and row.
-#[derive(Drop)]
+#[derive(Clone, Copy)]
 pub enum Found {
     Nothing,
     At(usize, usize),
 }
 
 // A grid, or why there is none: its corners or its cell are no corners and no cell, or it is too large.
-#[derive(Drop)]
+#[derive(Clone, Copy)]
 pub enum Raster {
     Unfit,
     TooLarge,

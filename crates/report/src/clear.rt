@@ -8,7 +8,7 @@ use super::zero::{zero_bytes, zero_doubles, zero_words};
 use setup::fill::{fill_doubles, fill_singles, fill_words};
 
 // What stays: cells of the map, rows, triples.
-#[derive(Drop)]
+#[derive(Clone, Copy)]
 pub struct Used {
     pub cells: usize,
     pub rows: usize,

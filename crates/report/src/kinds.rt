@@ -4,7 +4,7 @@ ghost use Rattle.report.specs.Kinds.{total, counting, kinds_of};
 
 use events::list::{Read, read_row};
 
-#[derive(Drop)]
+#[derive(Clone, Copy)]
 pub struct Kinds {
     pub passes: usize,
     pub helices: usize,

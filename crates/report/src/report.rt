@@ -15,7 +15,7 @@ use setup::{Setup, layout};
 
 // `AdaptiveReport` of the Rust without its texts. The last five fields are document 01's.
 #[repr(C)]
-#[derive(Drop)]
+#[derive(Clone, Copy)]
 pub struct AdaptiveReport {
     pub layers: usize,
     pub passes: usize,
@@ -35,7 +35,7 @@ pub struct AdaptiveReport {
 
 // What the report takes from the job and from the plan's rounds: the depth to be cleared, the stock cells
 // at the start, the helix places given up, and whether the budget was spent.
-#[derive(Drop)]
+#[derive(Clone, Copy)]
 pub struct Finish {
     pub top: f64,
     pub bottom: f64,

@@ -2,7 +2,7 @@
 ghost use Rattle.std.specs.Prelude.{◌≡◌, ◌+◌, ◌^◌, ◌≤◌, ◌<◌, length};
 ghost use Rattle.report.specs.Report.{counted, remaining_of};
 
-#[derive(Drop)]
+#[derive(Clone, Copy)]
 pub struct Left {
     pub reach: usize,
     pub unreach: usize,

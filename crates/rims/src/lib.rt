@@ -2,6 +2,8 @@
 // once, from the cell of the centre, and tested for every column and row. At any point: each sample lies in one of two
 // columns and one of two rows, worked out and tested likewise, and a comparison with the first number of the second
 // tells which. Blocks of samples are passed over where a tile tells that no stock is near.
+#![tactic(auto)]
+
 pub mod boxes;
 pub mod contact;
 pub mod hits;

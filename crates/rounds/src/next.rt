@@ -14,7 +14,7 @@ use passes::start::{Place, is_nearer};
 use pieces::row::{Row, row_at};
 
 // What a piece is chosen by; `at` is its number.
-#[derive(Drop)]
+#[derive(Clone, Copy)]
 pub struct Candidate {
     pub far: f64,
     pub points: u32,

@@ -17,7 +17,7 @@ use setup::{Setup, layout};
 
 // What became of a round's pieces: the state after them, and whether a pass was kept; or document 01's
 // refusal 16 or 17.
-#[derive(Drop)]
+#[derive(Clone, Copy)]
 pub enum Cuts {
     After(State, bool),
     Refused(u32),

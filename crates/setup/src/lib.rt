@@ -1,5 +1,7 @@
 // What planning fixes once (adaptive.rs of the Rust, `Planner::new`): the limits of a cut, and the tests
 // that every upper layer makes of a tool's place.
+#![tactic(auto)]
+
 ghost use Rattle.std.specs.Prelude.{◌≡◌};
 ghost use Rattle.setup.specs.Made.{setup_of};
 
@@ -16,7 +18,7 @@ use raster::grid::Grid;
 // The tool's radius is r; r_guard is the wider one that contact is measured at; `keep` is how far the
 // tool's centre keeps from walls, and `bound` decides distances below it. Contact is at most `guard` and
 // aims at `target`.
-#[derive(Drop)]
+#[derive(Clone, Copy)]
 pub struct Setup {
     pub grid: Grid,
     pub region: Region,

@@ -9,7 +9,7 @@ use raster::disk::{Span, cols_from, place};
 use raster::grid::Grid;
 
 // Columns counted from column i - s on, both in, if they are known.
-#[derive(Drop)]
+#[derive(Clone, Copy)]
 pub struct Bounds {
     pub known: bool,
     pub first: usize,

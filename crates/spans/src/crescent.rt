@@ -16,7 +16,7 @@ use raster::grid::{Found, Grid, cell_of};
 use raster::log::clear_disk_after_logged;
 
 // A point with its cell.
-#[derive(Drop)]
+#[derive(Clone, Copy)]
 pub struct Spot {
     pub p: Vec2,
     pub i: usize,
@@ -24,7 +24,7 @@ pub struct Spot {
 }
 
 // A point whose cell has room on each side, or not.
-#[derive(Drop)]
+#[derive(Clone, Copy)]
 pub enum Place {
     Off,
     On(Spot),

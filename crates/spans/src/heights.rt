@@ -10,7 +10,7 @@ use raster::disk::row_y;
 use raster::grid::Grid;
 
 // Between these the heights lie, if they are known.
-#[derive(Drop)]
+#[derive(Clone, Copy)]
 pub struct Heights {
     pub known: bool,
     pub least: f64,

@@ -13,7 +13,7 @@ use raster::grid::Grid;
 use raster::log::clear_span_logged;
 
 // Columns of a row, both in; none where the last comes before the first.
-#[derive(Drop)]
+#[derive(Clone, Copy)]
 pub struct Limits {
     pub first: usize,
     pub last: usize,

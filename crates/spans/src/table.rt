@@ -20,7 +20,7 @@ fn reach(g: Grid, r: f64) -> usize
 }
 
 // Two words of a row, if they are known.
-#[derive(Drop)]
+#[derive(Clone, Copy)]
 pub struct Pair {
     pub known: bool,
     pub outer: u64,

@@ -10,7 +10,7 @@ use raster::grid::{CellNo, center, column_of, index_of, row_of};
 use setup::Setup;
 
 // Cells up to `upto`, and whether no edge of the region is within `keep` of the centre of any of them.
-#[derive(Drop)]
+#[derive(Clone, Copy)]
 pub struct Block {
     pub upto: usize,
     pub apart: bool,

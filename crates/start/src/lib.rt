@@ -1,5 +1,7 @@
 // What planning starts from (adaptive.rs of the Rust, `Planner::new`): the stock, the wall distances, where
 // the tool may go, what it can reach, and its tables, in the lent workspace.
+#![tactic(auto)]
+
 ghost use Rattle.std.specs.Prelude.{◌≡◌, ◌≤◌, length};
 ghost use Rattle.numbers.specs.Bound.{Bounds};
 ghost use Rattle.raster.specs.Grid.{Sides};

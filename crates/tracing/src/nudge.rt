@@ -16,7 +16,7 @@ use setup::place::allowed_at;
 use setup::{Setup, layout};
 
 // Where a point is pulled to, if a place is found.
-#[derive(Drop)]
+#[derive(Clone, Copy)]
 pub enum Nudge {
     Still,
     To(Vec2),

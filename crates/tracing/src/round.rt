@@ -12,7 +12,7 @@ use super::curves::{smooth, trace};
 use setup::{Setup, layout};
 
 // How many pieces there are, and the work of the field.
-#[derive(Drop)]
+#[derive(Clone, Copy)]
 pub struct Traced {
     pub pieces: usize,
     pub work: usize,

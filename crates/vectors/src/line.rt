@@ -2,7 +2,7 @@
 ghost use Rattle.std.specs.Prelude.{◌≤◌};
 
 // The last four numbers. `bad` where a word is empty, has another character or too many digits.
-#[derive(Drop)]
+#[derive(Clone, Copy)]
 pub struct Words {
     pub bad: bool,
     pub count: u64,

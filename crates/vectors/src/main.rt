@@ -1,6 +1,8 @@
 // Replays stored answers of the Rust. A line of standard input is a function's name, its arguments and
 // the answer, parted by a blank; numbers are in hexadecimal digits, a float its bit pattern. Names each
 // line that differs or that cannot be read, and at the end says how many lines of each function agreed.
+#![tactic(auto)]
+
 mod line;
 mod name;
 mod of_numbers;
@@ -14,7 +16,7 @@ use name::COUNT;
 // Two counts for each function.
 const COUNTS: usize = 34;
 
-#[derive(Drop)]
+#[derive(Clone, Copy)]
 enum Verdict {
     Agrees(usize),
     Differs(usize),
@@ -22,7 +24,7 @@ enum Verdict {
 }
 
 // The place in the input: how many bytes of a line are there, and the line's number from 1.
-#[derive(Drop)]
+#[derive(Clone, Copy)]
 struct Place {
     length: usize,
     number: u64,
@@ -116,7 +118,7 @@ fn bytes(read: &[u8], s: &mut [u8; 128], start: Place, tally: &mut [u64; COUNTS]
     at
 }
 
-#[derive(Drop)]
+#[derive(Clone, Copy)]
 struct Step {
     at: Place,
     more: bool,

@@ -13,7 +13,7 @@ use prints::{of_map, of_numbers};
 use raster::grid::Grid;
 use raster::log::{clear_disk_after_logged, undo};
 
-#[derive(Drop)]
+#[derive(Clone, Copy)]
 struct Removed {
     count: usize,
     log: u64,

@@ -2,6 +2,8 @@
 // squares), its arguments and the answer, parted by a blank; numbers are in hexadecimal digits, a float its
 // bit pattern. Names each line that differs or that cannot be read or is out of range, and at the end says
 // how many lines of each word agreed.
+#![tactic(auto)]
+
 mod contact;
 mod crescent;
 mod fill;
@@ -16,7 +18,7 @@ ghost use Rattle.vectors_maps.specs.Maps.{Small};
 use libc::{STDIN_FILENO, STDOUT_FILENO};
 use words::Line;
 
-#[derive(Drop)]
+#[derive(Clone, Copy)]
 pub enum Judged {
     Agrees,
     Differs,
@@ -121,7 +123,7 @@ fn bytes(read: &[u8], s: &mut [u64; 64], start: Line, tally: &mut [u64; 8]) -> L
     l
 }
 
-#[derive(Drop)]
+#[derive(Clone, Copy)]
 struct Part {
     line: Line,
     more: bool,

@@ -2,7 +2,7 @@
 // The word stands in the first place, eight bits a letter, and the numbers in the places after it.
 ghost use Rattle.std.specs.Prelude.{◌<◌, ◌≤◌};
 
-#[derive(Drop)]
+#[derive(Clone, Copy)]
 pub struct Line {
     // A field is empty, too long or has another character, or there are too many.
     pub bad: bool,
@@ -14,7 +14,7 @@ pub struct Line {
     pub number: u64,
 }
 
-#[derive(Drop)]
+#[derive(Clone, Copy)]
 struct Grown {
     bad: bool,
     value: u64,

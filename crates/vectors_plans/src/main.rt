@@ -1,5 +1,7 @@
 // Stored plans of the Rust, planned again: what is written is the oracle's answer (README.md has the lines). The
 // lent slices hold sevens before, and so do the places that are not lent.
+#![tactic(auto)]
+
 ghost use Rattle.std.specs.Prelude.{◌≤◌, length};
 
 use entry::params::{AdaptiveParams, Setting};

@@ -1,2 +1,4 @@
 // What planning keeps in its four lent slices between its steps: see specs/ and proofs/.
+#![tactic(auto)]
+
 pub mod places;

@@ -1,0 +1,36 @@
+-- `abi::of_passes::passes_simulate` meets its contract. Assumes nothing.
+use mathlib.Core.Path.{sym, ◌∙◌}
+use native.Mathlib.Omega.{arith}
+use lib.ListN.{length-set}
+use Rattle.rims.proofs.TileLaws.{tiles_long}
+use Rattle.abi.proofs.PassLaws.{pass-walls, pass-tables, pass_usable, pass_by_lem}
+use borrow.Author.Rules.{rules}
+use Rattle.abi.proofs.of_passes.passes_simulate.Goals as goal
+
+pub slice_bounds-fill-end : goal.slice_bounds-fill-end
+slice_bounds-fill-end c = sym tiles_long
+
+pub fill-requires : goal.fill-requires
+fill-requires c =     let p = c.requires in
+    let m = c.passing-s.ensures in record { over = (pass_usable _ _ _ _ _ _ _ _ _ m.0 m.1 _ _ _ p.usable).over; in_bounds = omega (arith, tiles_long); }
+
+pub slice_bounds-simulate-end : goal.slice_bounds-simulate-end
+slice_bounds-simulate-end c = sym (c.fill.auto.1.1.0 ∙ tiles_long)
+
+pub simulate-t-requires : goal.simulate-t-requires
+simulate-t-requires c =     let p = c.requires in
+    let m = c.passing-s.ensures in record { walls = pass-walls _ _ _ _ _ _ _ _ _ m.0 m.1 _ _ _ p.walls; tables = pass-tables _ _ _ _ _ _ _ _ _ m.0 m.1 _ p.tables; usable = pass_usable _ _ _ _ _ _ _ _ _ m.0 m.1 _ _ _ p.usable; tiled = c.fill.ensures; }
+
+pub bounds-out-0 : goal.bounds-out-0
+bounds-out-0 c = omega (arith, c.requires.in_bounds)
+
+pub bounds-out-1 : goal.bounds-out-1
+bounds-out-1 c = simp length-set (omega (arith, c.requires.in_bounds))
+
+pub bounds-out-2 : goal.bounds-out-2
+bounds-out-2 c = simp length-set (omega (arith, c.requires.in_bounds))
+
+pub returns : goal.returns
+returns c =    let a = c.args in
+    let m = c.passing-s.ensures in
+    pass_by_lem _ _ _ _ _ _ _ _ _ m.0 m.1 _ _ _ _ a.kept _ _ _ _ _ _ _ a.out.now c.requires.in_bounds c.simulate-t.ensures

@@ -1,0 +1,19 @@
+-- `abi::of_raster::raster_cell_of` meets its contract. Assumes nothing.
+use mathlib.Core.Path.{sym, ap, ◌∙◌}
+use native.Mathlib.Omega.{arith}
+use Rattle.raster.proofs.GridLaws.{on-grid-at}
+use Rattle.abi.specs.Raster.{packed_cell}
+use borrow.Author.Rules.{rules}
+use Rattle.abi.proofs.of_raster.raster_cell_of.Goals as goal
+
+pub pack-requires : goal.pack-requires
+pack-requires c =     let w = on-grid-at _ _ _ _ _ c.cell_of-f.ensures c.in-At.is in
+    let s = c.requires in record { i_bound = omega (arith, w.0, s.nx_bound); j_bound = omega (arith, w.1, s.ny_bound); }
+
+pub returns-in-Nothing : goal.returns-in-Nothing
+unfolding packed_cell
+returns-in-Nothing c = ap packed_cell (sym c.in-Nothing.is ∙ c.cell_of-f.ensures)
+
+pub returns-in-At : goal.returns-in-At
+unfolding packed_cell
+returns-in-At c = c.pack.ensures ∙ ap packed_cell (sym c.in-At.is ∙ c.cell_of-f.ensures)

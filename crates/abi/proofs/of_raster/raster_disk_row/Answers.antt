@@ -1,0 +1,10 @@
+-- `abi::of_raster::raster_disk_row` meets its contract. Assumes nothing.
+use mathlib.Core.Path.{ap, ◌∙◌}
+use Rattle.raster.specs.Disk.{disk_row}
+use Rattle.abi.specs.Raster.{packed_span}
+use borrow.Author.Rules.{rules}
+use Rattle.abi.proofs.of_raster.raster_disk_row.Goals as goal
+
+pub returns : goal.returns
+unfolding disk_row
+returns c = c.pack_span.ensures ∙ ap packed_span c.chord.ensures

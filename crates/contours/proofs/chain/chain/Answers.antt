@@ -1,0 +1,155 @@
+-- `contours::chain::chain` meets its contract. The invariant: some edges were followed, and what is kept of their points is written. The measure: edges that are not used. Assumes nothing.
+use Rattle.std.proofs.Common.{◌≡◌, ℕ, ◌-◌, ◌*◌, ◌<◌, ◌≤◌, List, length, get_or, set, sym, refl, ap, ◌∙◌, subst, arith, length-set, ne_eqb, eqb-true}
+use lib.Ieee.{Float}
+use borrow.Author.Tests.{eqb-false}
+use Rattle.loops.specs.Cells.{ones}
+use Rattle.loops.proofs.CellLaws.{ones_le, ones-mark}
+use Rattle.geom.specs.Points.{put_point}
+use Rattle.geom.specs.declared.vec2.Vec2.{Vec2}
+use Rattle.raster.specs.declared.grid.Grid.{Grid}
+use Rattle.contours.specs.declared.chain.Trail.{Trail}
+use Rattle.contours.specs.declared.edge.EdgeNo.{EdgeNo}
+use Rattle.contours.specs.Edge.{edge, nothing, Between}
+use Rattle.contours.specs.Chain.{edge_point, Chaining}
+use Rattle.contours.proofs.EdgeLaws.{edge-below}
+use Rattle.contours.proofs.FollowLaws.{Following, following_none, following_more, out_open, out-closed, out-used, point-room, first-room}
+use Rattle.contours.proofs.chain.chain.Goals as goal
+use Rattle.contours.proofs.chain.chain.Goals.{After-next_of-n, At-loop-g, Else-is_nothing, Else-is_used, Else-same_edge, Start, Then-is_nothing, Then-is_used, Then-same_edge}
+
+-- whatever the slices were before the first edge was put
+pub record Inv (at : ℕ → Vec2) (g : Grid) (next marks₀ : List ℕ) (pts₀ : List Float) (first s : ℕ) (marks : List ℕ) (pts : List Float) (t : Trail) (cur : ℕ) : Type 0 where
+  pub following : (m : List ℕ) (w : List Float) → Chaining g next m w first s → s < length m → marks₀ ≡ set m s 1 → pts₀ ≡ put_point first (at s) w → Following at next m w first s marks pts t cur
+
+-- an edge of the grid has its place in the tables
+below : (c : Start) (n : ℕ) → Between c.args.g (edge n) → n < length c.args.marks.now
+below c n b = omega (arith, edge-below c.args.g (edge n) c.requires.over.sides b, c.requires.chaining.marks-long)
+
+-- at each turn, with the slices as they were lent
+follows : (c : At-loop-g) → let a = c.args in
+    Following (edge_point a.g a.f.now a.level) a.next.now a.marks.now a.pts.now a.first a.s.0 c.loop-g.marks c.loop-g.pts c.loop-g.t c.loop-g.cur.0
+follows c =
+    let p = c.requires.chaining in
+    let a = c.args in
+    c.loop-g.invariant.following _ _ p (below c.before.before.before.before.before.before.before.before.before.before.before.before.before.before _ p.start) c.use_edge.ensures (c.put.ensures ∙ ap (λ (q : Vec2). put_point a.first q a.pts.now) c.crossing-p.ensures)
+
+-- the number of the edge that follows
+abbrev n-at : tie.At-loop invariant-loop decreases-loop → ℕ
+n-at c = get_or c.before.before.before.before.before.before.before.before.before.before.before.before.before.before.args.next.now c.loop.cur.0 0
+
+n_is : (c : After-next_of-n) → c.next_of-n.result.0 ≡ n-at c.before
+n_is c = ap (λ (e : EdgeNo). e.0) c.next_of-n.ensures
+
+-- it is one of the grid, and has its place in the tables
+leads : (c : At-loop-g) → (n-at c ≡ nothing → ⊥) → Between c.args.g (edge (n-at c))
+leads c e = let p = c.requires.chaining in p.leads.to c.loop-g.cur.0 (omega (arith, (follows c).walked.here, p.next-long, p.marks-long)) (ne_eqb _ _ e)
+
+placed : (c : At-loop-g) → (n-at c ≡ nothing → ⊥) → n-at c < length c.args.marks.now
+placed c e = below c.before.before.before.before.before.before.before.before.before.before.before.before.before.before _ (leads c e)
+
+-- the tables' edges have room for their points
+wide : (c : Start) → 2 * length c.args.marks.now ≤ length c.args.pts.now
+wide c = omega (arith, c.requires.chaining.marks-long, c.requires.chaining.pts-long)
+
+-- what the tests say of it
+is_none : (c : Then-is_nothing) → n-at c.before.before.before ≡ nothing
+is_none c = sym (n_is c.before.before) ∙ eqb-true _ _ (sym c.is_nothing.ensures ∙ c.if-is_nothing.true)
+
+not_none : (c : Else-is_nothing) → n-at c.before.before.before ≡ nothing → ⊥
+not_none c z = eqb-false _ _ (sym c.is_nothing.ensures ∙ c.if-is_nothing.false) (n_is c.before.before ∙ z)
+
+is-first : (c : Then-same_edge) → n-at c.before.before.before.before.before ≡ c.args.s.0
+is-first c = sym (n_is c.before.before.before.before) ∙ eqb-true _ _ (sym c.same_edge.ensures ∙ c.if-same_edge.true)
+
+not_first : (c : Else-same_edge) → n-at c.before.before.before.before.before ≡ c.args.s.0 → ⊥
+not_first c z = eqb-false _ _ (sym c.same_edge.ensures ∙ c.if-same_edge.false) (n_is c.before.before.before.before ∙ z)
+
+used : (c : Then-is_used) → get_or c.loop-g.marks (n-at c.before.before.before.before.before.before.before.before) 0 ≡ 1
+used c = ap (λ (k : ℕ). get_or c.loop-g.marks k 0) (sym (n_is c.before.before.before.before.before.before.before)) ∙ eqb-true _ _ (sym c.is_used.ensures ∙ c.if-is_used.true)
+
+fresh : (c : Else-is_used) → get_or c.loop-g.marks (n-at c.before.before.before.before.before.before.before.before) 0 ≡ 1 → ⊥
+fresh c z = eqb-false _ _ (sym c.is_used.ensures ∙ c.if-is_used.false) (ap (λ (k : ℕ). get_or c.loop-g.marks k 0) (n_is c.before.before.before.before.before.before.before) ∙ z)
+
+pub use_edge-requires : goal.use_edge-requires
+use_edge-requires c = below (goal.at.use_edge-requires c).Start _ c.requires.chaining.start
+
+pub crossing-p-requires : goal.crossing-p-requires
+crossing-p-requires c = record { over = c.requires.over; between = c.requires.chaining.start; }
+
+pub put-requires : goal.put-requires
+put-requires c =    let p = c.requires.chaining in
+    let a = c.args in
+    first-room (edge_point a.g a.f.now a.level) a.next.now a.marks.now a.pts.now a.first a.s.0 p.room (below (goal.at.put-requires c).Start _ p.start) p.unused (omega (arith, p.marks-long, p.pts-long))
+
+pub loop-g-init : goal.loop-g-init
+loop-g-init c =    record {
+      following = λ m w h b d e. rw (d, e, c.crossing-p.ensures) (following_none _ _ m w _ _ h.room b h.unused (omega (arith, h.marks-long, h.pts-long)));
+    }
+
+pub next_of-n-requires : goal.next_of-n-requires
+next_of-n-requires c = let p = c.requires.chaining in omega (arith, (follows (goal.at.next_of-n-requires c).At-loop-g).walked.here, p.next-long, p.marks-long)
+
+pub is_nothing-requires : goal.is_nothing-requires
+is_nothing-requires c = tt
+
+pub shape_of-marks-then-is_nothing : goal.shape_of-marks-then-is_nothing
+shape_of-marks-then-is_nothing c = (follows (goal.at.shape_of-marks-then-is_nothing c).At-loop-g).walked.long
+
+pub shape_of-pts-then-is_nothing : goal.shape_of-pts-then-is_nothing
+shape_of-pts-then-is_nothing c = (follows (goal.at.shape_of-pts-then-is_nothing c).At-loop-g).long
+
+pub returns-then-is_nothing : goal.returns-then-is_nothing
+returns-then-is_nothing c = out_open _ _ _ _ _ _ c.requires.chaining.room _ _ _ _ (follows (goal.at.returns-then-is_nothing c).At-loop-g) (is_none (goal.at.returns-then-is_nothing c).Then-is_nothing)
+
+pub same_edge-requires : goal.same_edge-requires
+same_edge-requires c = tt
+
+pub shape_of-marks-then-same_edge : goal.shape_of-marks-then-same_edge
+shape_of-marks-then-same_edge c = (follows (goal.at.shape_of-marks-then-same_edge c).At-loop-g).walked.long
+
+pub shape_of-pts-then-same_edge : goal.shape_of-pts-then-same_edge
+shape_of-pts-then-same_edge c = (follows (goal.at.shape_of-pts-then-same_edge c).At-loop-g).long
+
+pub returns-then-same_edge : goal.returns-then-same_edge
+returns-then-same_edge c = out-closed _ _ _ _ _ _ c.requires.chaining.room _ _ _ _ (follows (goal.at.returns-then-same_edge c).At-loop-g) (not_none (goal.at.returns-then-same_edge c).Else-is_nothing) (is-first (goal.at.returns-then-same_edge c).Then-same_edge)
+
+pub is_used-requires : goal.is_used-requires
+is_used-requires c = omega (arith, placed (goal.at.is_used-requires c).After-slice_known-4-1 (not_none (goal.at.is_used-requires c).After-is_nothing), (follows (goal.at.is_used-requires c).After-slice_known-4-1).walked.long, n_is (goal.at.is_used-requires c).At-loop-g)
+
+pub shape_of-marks-then-is_used : goal.shape_of-marks-then-is_used
+shape_of-marks-then-is_used c = (follows (goal.at.shape_of-marks-then-is_used c).After-slice_known-4-1).walked.long
+
+pub shape_of-pts-then-is_used : goal.shape_of-pts-then-is_used
+shape_of-pts-then-is_used c = (follows (goal.at.shape_of-pts-then-is_used c).After-slice_known-4-1).long
+
+pub returns-then-is_used : goal.returns-then-is_used
+returns-then-is_used c = out-used _ _ _ _ _ _ c.requires.chaining.room _ _ _ _ (follows (goal.at.returns-then-is_used c).After-slice_known-4-1) (not_none (goal.at.returns-then-is_used c).After-is_nothing) (not_first (goal.at.returns-then-is_used c).After-same_edge) (used (goal.at.returns-then-is_used c).Then-is_used)
+
+pub use_edge-requires-in-loop-g : goal.use_edge-requires-in-loop-g
+use_edge-requires-in-loop-g c = omega (arith, placed (goal.at.use_edge-requires-in-loop-g c).After-slice_known-4-1 (not_none (goal.at.use_edge-requires-in-loop-g c).After-is_nothing), (follows (goal.at.use_edge-requires-in-loop-g c).After-slice_known-4-1).walked.long, n_is (goal.at.use_edge-requires-in-loop-g c).At-loop-g)
+
+pub crossing-requires : goal.crossing-requires
+crossing-requires c = record { over = c.requires.over; between = subst (Between c.args.g) (sym c.next_of-n.ensures) (leads (goal.at.crossing-requires c).After-slice_known-4-1 (not_none (goal.at.crossing-requires c).After-is_nothing)); }
+
+pub extend-t-requires : goal.extend-t-requires
+extend-t-requires c = point-room _ _ _ _ _ _ c.requires.chaining.room _ _ _ _ _ (follows (goal.at.extend-t-requires c).After-slice_known-4-1) (placed (goal.at.extend-t-requires c).After-slice_known-4-1 (not_none (goal.at.extend-t-requires c).After-is_nothing)) (fresh (goal.at.extend-t-requires c).Else-is_used) (wide (goal.at.extend-t-requires c).Start)
+
+pub loop-g-smaller : goal.loop-g-smaller
+loop-g-smaller c =    let m = c.loop-g.marks in
+    let n = get_or c.args.next.now c.loop-g.cur.0 0 in
+    let b = placed (goal.at.loop-g-smaller c).After-slice_known-4-1 (not_none (goal.at.loop-g-smaller c).After-is_nothing) in
+    let w = (follows (goal.at.loop-g-smaller c).After-slice_known-4-1).walked.long in
+    let u = ap ones (c.use_edge-in-loop-g.ensures ∙ ap (λ (k : ℕ). set m k 1) (n_is (goal.at.loop-g-smaller c).At-loop-g)) in
+    let o = ap length c.use_edge.ensures in
+    omega (arith, u, o, ones-mark m n (omega arith) (ne_eqb _ _ (fresh (goal.at.loop-g-smaller c).Else-is_used)), ones_le (set m n 1), length-set m n 1, length-set c.args.marks.now c.args.s.0 1)
+
+pub loop-g-preserved : goal.loop-g-preserved
+loop-g-preserved c =    let a = c.args in
+    let x = c.extend-t.ensures in
+    record {
+      following = λ m w h b d e.
+          let n = length-set m a.s.0 1 in
+          let o = length-set a.marks.now a.s.0 1 in
+          rw (x.1, x.0, c.crossing.ensures, c.use_edge-in-loop-g.ensures, c.next_of-n.ensures)
+          (following_more _ _ m w _ _ h.room _ _ _ _ _ (c.loop-g.invariant.following m w h b d e) refl (not_none (goal.at.loop-g-preserved c).After-is_nothing) (not_first (goal.at.loop-g-preserved c).After-same_edge) (fresh (goal.at.loop-g-preserved c).Else-is_used)
+          (omega (arith, placed (goal.at.loop-g-preserved c).After-slice_known-4-1 (not_none (goal.at.loop-g-preserved c).After-is_nothing), ap length d, ap length c.use_edge.ensures)) (omega (arith, h.marks-long, h.pts-long)));
+    }

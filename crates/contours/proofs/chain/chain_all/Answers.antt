@@ -1,0 +1,70 @@
+-- `contours::chain::chain_all` meets its contract. The invariant: the chains of k segments are taken up. Assumes nothing.
+use Rattle.std.proofs.Common.{◌≡◌, ℕ, ◌+◌, ◌-◌, ◌*◌, ◌<◌, ◌≤◌, length, get_or, sym, refl, ap, ◌∙◌, subst, arith}
+use Rattle.contours.specs.Edge.{edge, Between}
+use Rattle.contours.specs.Square.{segment, Joins}
+use Rattle.contours.specs.Places.{next_at, words_end}
+use Rattle.contours.specs.Chain.{chains, edge_point}
+use Rattle.contours.specs.Traced.{pieces_in, Traced}
+use Rattle.contours.specs.declared.edge.EdgeNo.{EdgeNo}
+use Rattle.contours.specs.declared.square.Segment.{Segment}
+use Rattle.contours.proofs.TableLaws.{segment-read, segment-each}
+use Rattle.contours.proofs.TourLaws.{toured, tour_none, tour_more}
+use Rattle.contours.proofs.chain.chain_all.Goals as goal
+use Rattle.contours.proofs.chain.chain_all.Goals.{In-loop-k}
+
+-- the segment at k joins edges of the grid
+joins : (c : In-loop-k) → let l = c.loop-k in Joins c.args.g (segment (edge (get_or l.words (2 * l.k) 0)) (edge (get_or l.words (2 * l.k + 1) 0)))
+joins c =
+    let p = c.requires in
+    segment-each (Joins c.args.g) _ _ _ _ _ p.each c.loop-k.invariant.0.segments_kept p.m_bound c.loop-k-test.true
+
+-- and its place is within the words
+placed : (c : In-loop-k) → let a = c.args in (2 * c.loop-k.k + 1 < next_at a.n) × (length c.loop-k.words ≡ words_end a.n) × (a.n ≤ 1048576)
+placed c =
+    let p = c.requires in
+    let t = c.loop-k.invariant.0.tracing in
+    (omega (arith, p.m_bound, c.loop-k-test.true), t.words_long, omega (arith, t.cells, p.over.sides.cells))
+
+pub loop-k-init : goal.loop-k-init
+loop-k-init c = (tour_none _ _ _ _ _ _ _ _ _ refl c.requires.tracing, omega arith)
+
+pub overflow_mul-k : goal.overflow_mul-k
+overflow_mul-k c = omega (arith, (placed (goal.at.overflow_mul-k c).At-loop-k).0, (placed (goal.at.overflow_mul-k c).At-loop-k).2)
+
+pub edge_at-s-requires : goal.edge_at-s-requires
+edge_at-s-requires c = let h = placed (goal.at.edge_at-s-requires c).At-loop-k in omega (arith, h.0, h.1)
+
+pub start_at-c-requires : goal.start_at-c-requires
+start_at-c-requires c = record { over = c.requires.over; tracing = c.loop-k.invariant.0.tracing; between = subst (Between c.args.g) (sym c.edge_at-s.ensures) (joins (goal.at.start_at-c-requires c).At-loop-k).from; }
+
+pub overflow_step-k : goal.overflow_step-k
+overflow_step-k c = let h = placed (goal.at.overflow_step-k c).At-loop-k in omega (arith, h.0, h.2)
+
+pub loop-k-smaller : goal.loop-k-smaller
+loop-k-smaller c = omega (arith, c.loop-k-test.true)
+
+pub loop-k-preserved : goal.loop-k-preserved
+loop-k-preserved c =    let l = c.loop-k in
+    let a = c.args in
+    let h = placed (goal.at.loop-k-preserved c).At-loop-k in (
+      tour_more (edge_point a.g a.f.now a.level) a.g a.n a.first a.words.now a.pts.now _ l.k l.words l.marks l.pts l.c l.invariant.0 _
+          (ap (λ (e : EdgeNo). e.0) c.edge_at-s.ensures ∙ sym (ap (λ (s : Segment). s.from.0) (segment-read a.n l.k a.words.now l.words l.invariant.0.segments_kept h.0))) _ _ _ _ c.start_at-c.ensures,
+      omega (arith, c.loop-k-test.true),
+    )
+
+pub shape_of-words : goal.shape_of-words
+shape_of-words c = c.loop-k.invariant.0.words_long
+
+pub shape_of-marks : goal.shape_of-marks
+shape_of-marks c = c.loop-k.invariant.0.tracing.marks-long ∙ sym c.requires.tracing.marks-long
+
+pub shape_of-pts : goal.shape_of-pts
+shape_of-pts c = c.loop-k.invariant.0.pts-long
+
+pub returns : goal.returns
+returns c =    let l = c.loop-k in
+    let a = c.args in
+    subst
+    (λ (k : ℕ). Traced a.g a.n (toured (edge_point a.g a.f.now a.level) a.g a.n a.first a.words.now a.pts.now (chains a.marks.now (pieces_in a.n a.so a.words.now a.pts.now)) k) a.words.now a.pts.now l.words l.marks l.pts l.c)
+    (let z : l.k ≡ a.m = omega (arith, l.invariant.1, c.loop-k-test.false) in z)
+    l.invariant.0

@@ -1,0 +1,10 @@
+-- `contours::quiet::signs_of` meets its contract. The invariant: each flag is of the values from `from` on before k. Assumes nothing.
+use Rattle.std.proofs.Common.{◌-◌, false, get_or, refl, arith, rules}
+use lib.Ieee.{nan, lt, le}
+use Rattle.loops.specs.Loop.{or_at, any}
+use Rattle.loops.proofs.LoopLaws.{Going, going_none, going_more, going_end}
+use Rattle.contours.specs.Quiet.{signs_of}
+use Rattle.contours.proofs.quiet.signs_of.Given as goal
+
+abbrev pub invariant-loop-k : goal.invariant-loop-k
+invariant-loop-k l = Going (or_at (λ i. lt l.level (get_or l.f i nan))) l.from l.to false l.above l.k × Going (or_at (λ i. le (get_or l.f i nan) l.level)) l.from l.to false l.below l.k

@@ -1,0 +1,25 @@
+-- `contours::tables::tabulate` meets its contract. Assumes nothing.
+use Rattle.std.proofs.Common.{refl, rules}
+use Rattle.loops.specs.Regions.{within}
+use Rattle.contours.proofs.TabulateLaws.{listed_at, tabled_at}
+use Rattle.contours.proofs.tables.tabulate.Goals as goal
+
+pub insert_all-requires : goal.insert_all-requires
+unfolding within
+insert_all-requires c =    let a = c.args in
+    let p = c.requires in
+    listed_at a.g a.f.now a.level a.n _ a.words.now a.marks.now _ p.over p.sized _ _ c.next_at-next.ensures c.rows_at-rows.ensures c.march-m.ensures _ _ _ _
+    refl
+    c.fill_words.ensures
+    refl
+    c.fill_bytes.ensures
+
+pub returns : goal.returns
+unfolding within
+returns c =    let a = c.args in
+    let p = c.requires in
+    tabled_at a.g a.f.now a.level a.n _ a.words.now a.marks.now _ p.over p.sized _ _ c.next_at-next.ensures c.rows_at-rows.ensures c.march-m.ensures _ _ _ _
+    refl
+    c.fill_words.ensures
+    refl
+    c.fill_bytes.ensures _ _ c.insert_all.ensures

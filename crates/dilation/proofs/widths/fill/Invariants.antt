@@ -1,0 +1,13 @@
+-- `dilation::widths::fill` meets its contract. Assumes nothing.
+use mathlib.Core.Path.{◌≡◌, ◌∙◌, subst}
+use Prim.Native.Nat.{ℕ, ◌+◌, ◌-◌, ◌≤◌}
+use native.Mathlib.Omega.{arith}
+use lib.ListN.{length, length-set}
+use Rattle.distance.specs.Least.{square}
+use Rattle.dilation.specs.Parts.{WidthsTo}
+use Rattle.dilation.proofs.WidthLaws.{width_next, widths_more, widths-end}
+use borrow.Author.Rules.{rules}
+use Rattle.dilation.proofs.widths.fill.Given as goal
+
+abbrev pub invariant-loop-d : goal.invariant-loop-d
+invariant-loop-d l = WidthsTo l.e l.d l.widths × (l.e ≤ square l.w + square l.d) × (l.w ≤ 8192) × (length l.widths ≡ length l.initial.widths) × (l.d ≤ 4096)

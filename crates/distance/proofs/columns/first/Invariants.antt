@@ -1,0 +1,17 @@
+-- `distance::columns::first` meets its contract. The invariant: the cells before k are done. Assumes nothing.
+use mathlib.Core.Path.{◌≡◌, refl, ◌∙◌}
+use mathlib.Core.List.{List}
+use Prim.Native.Nat.{ℕ, ◌-◌, ◌≤◌}
+use native.Mathlib.Omega.{arith}
+use lib.ListN.{length, length-set}
+use Rattle.distance.specs.Column.{Down}
+use Rattle.distance.proofs.ColumnLaws.{down-none, down-same, step-first}
+use Rattle.distance.proofs.columns.first.Given as goal
+
+pub record Swept (mark : ℕ) (marks : List ℕ) (nx cells : ℕ) (work₀ work : List ℕ) (k : ℕ) : Type 0 where
+  pub high : k ≤ cells
+  pub long : length work ≡ length work₀
+  pub down : Down mark marks nx k work₀ work
+
+abbrev pub invariant-loop-k : goal.invariant-loop-k
+invariant-loop-k l = Swept l.mark l.marks l.nx l.nx l.initial.work l.work l.k

@@ -1,0 +1,44 @@
+-- `distance::rows::envelope` meets its contract. The invariant: the stack is that of the parabolas before q. Assumes nothing.
+use mathlib.Core.Path.{◌≡◌, refl, sym, ap, ◌∙◌}
+use mathlib.Core.List.{List}
+use Prim.Native.Nat.{ℕ, ◌-◌, ◌+◌, ◌≤◌}
+use native.Mathlib.Omega.{arith}
+use lib.ListN.{length}
+use Rattle.distance.specs.Envelope.{Keyed, Stack, Rest, row_keys, key_of}
+use Rattle.distance.proofs.EnvelopeLaws.{stack-none, stack_same, sound, rest-none, rest_trans}
+use Rattle.distance.proofs.RowLaws.{keyed, row-keys}
+use Rattle.distance.proofs.rows.envelope.Goals as goal
+use Rattle.distance.proofs.rows.envelope.Goals.{Start}
+use Rattle.distance.proofs.rows.envelope.Invariants.{Stacking}
+
+made : (c : Start) → Keyed (row_keys c.args.work.now c.args.base) c.args.nx
+made c = keyed c.args.work.now c.args.base _ _ c.requires.nx_bound (row-keys c.args.work.now c.args.base _)
+
+pub loop-q-init : goal.loop-q-init
+loop-q-init c = record { high = omega arith; long = refl; stack = stack-none _ _ _ _; rest = rest-none _ _ _ }
+
+pub place-n-requires : goal.place-n-requires
+place-n-requires c =     let i = c.loop-q.invariant in record { nx_bound = c.requires.nx_bound_2; nx_in_bounds = omega (arith, c.requires.nx_in_bounds, i.long); sound = sound _ _ _ _ _ _ (made (goal.at.place-n-requires c).Start) i.high i.stack; q_lt_nx = c.loop-q-test.true; }
+
+pub overflow_step-q : goal.overflow_step-q
+overflow_step-q c = omega (arith, c.loop-q-test.true, c.requires.nx_bound)
+
+pub loop-q-smaller : goal.loop-q-smaller
+loop-q-smaller c = let t = c.loop-q-test.true in omega arith
+
+pub loop-q-preserved : goal.loop-q-preserved
+loop-q-preserved c =    let l = c.loop-q in
+    let t = c.loop-q-test.true in
+    let p = c.place-n in
+    record {
+      high = omega arith;
+      long = p.auto.work ∙ l.invariant.long;
+      stack = p.ensures.taken (row_keys c.args.work.now c.args.base) (made (goal.at.loop-q-preserved c).Start) (ap (key_of l.q) (sym (l.invariant.rest.left (c.args.base + l.q) (omega (arith, c.requires.nx_bound_2))))) l.invariant.stack;
+      rest = rest_trans l.invariant.rest p.ensures.rest;
+    }
+
+pub shape_of-work : goal.shape_of-work
+shape_of-work c = c.loop-q.invariant.long
+
+pub returns : goal.returns
+returns c = record { stack = stack_same (omega arith) c.loop-q.invariant.stack; rest = c.loop-q.invariant.rest; }

@@ -1,0 +1,22 @@
+-- `distance::rows::fill` meets its contract. The invariant: the regions from k on are written. Assumes nothing.
+use mathlib.Core.Path.{◌≡◌, refl, ◌∙◌}
+use mathlib.Core.List.{List}
+use Prim.Native.Nat.{ℕ, ◌-◌, ◌+◌, ◌*◌, ◌≤◌}
+use native.Mathlib.Omega.{arith}
+use lib.ListN.{length, get_or}
+use Rattle.distance.specs.Envelope.{Entry, Filled}
+use Rattle.distance.proofs.RowLaws.{Edge, edge_same, entry-same, edge_le, filled_none, filled_more, filled-all}
+use Rattle.distance.proofs.rows.fill.Given as goal
+
+pub record Filling (base s nx n : ℕ) (work₀ work : List ℕ) (k e : ℕ) : Type 0 where
+  pub high : k ≤ n
+  pub long : length work ≡ length work₀
+  pub edge : Edge work₀ s nx n k e
+  pub same : (c : ℕ) → base + nx ≤ c → get_or work c 0 ≡ get_or work₀ c 0
+  pub filled : Filled s nx n base e work₀ work
+
+abbrev pub invariant-loop-k : goal.invariant-loop-k
+invariant-loop-k l = Filling l.base l.s l.nx l.n l.initial.work l.work l.k l.e
+
+abbrev pub decreases-loop-k : goal.decreases-loop-k
+decreases-loop-k l = l.k

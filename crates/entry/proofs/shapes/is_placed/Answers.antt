@@ -1,0 +1,9 @@
+-- `entry::shapes::is_placed` meets its contract. Assumes nothing.
+use Rattle.entry.specs.Questions.{placed}
+use mathlib.Core.Path.{refl}
+use borrow.Author.Rules.{rules}
+use Rattle.entry.proofs.shapes.is_placed.Goals as goal
+
+pub returns : goal.returns
+unfolding placed
+returns c = rw (c.is_finite.ensures, c.abs.ensures) refl

@@ -1,0 +1,32 @@
+-- `events::list::read_row` meets its contract. Assumes nothing.
+use native.Mathlib.Omega.{arith}
+use Prim.Native.Nat.{◌+◌, ◌*◌}
+use borrow.Author.Tests.{eq-eqb, ne_eqb, lt-ltb, le-ltb}
+use Rattle.events.specs.Read.{read_whole, read_at}
+use borrow.Author.Rules.{rules}
+use Rattle.events.proofs.list.read_row.Goals as goal
+
+pub overflow_cast-n : goal.overflow_cast-n
+overflow_cast-n c = omega (arith, c.shared_slice_known-5-1.given (c.args.k * 3 + 1))
+
+pub overflow_cast-count : goal.overflow_cast-count
+overflow_cast-count c = omega (arith, c.shared_slice_known-5-1.given (c.args.k * 3 + 2))
+
+pub overflow_add-n : goal.overflow_add-n
+overflow_add-n c = omega (arith, c.shared_slice_known-5-1.given (c.args.k * 3 + 1), c.shared_slice_known-5-1.given (c.args.k * 3 + 2))
+
+pub returns-then-triples-n : goal.returns-then-triples-n
+unfolding read_at read_whole
+returns-then-triples-n c = rw (lt-ltb _ _ c.if-triples-n.true)
+
+pub returns-then-kind-eq4 : goal.returns-then-kind-eq4
+unfolding read_at read_whole
+returns-then-kind-eq4 c = rw (le-ltb _ _ c.if-triples-n.false, eq-eqb _ _ c.if-kind-eq4.true)
+
+pub returns-then-count-eq1 : goal.returns-then-count-eq1
+unfolding read_at read_whole
+returns-then-count-eq1 c = rw (le-ltb _ _ c.if-triples-n.false, ne_eqb _ _ c.if-kind-eq4.false, eq-eqb _ _ c.if-count-eq1.true) c.read_one.ensures
+
+pub returns : goal.returns
+unfolding read_at read_whole
+returns c = rw (le-ltb _ _ c.if-triples-n.false, ne_eqb _ _ c.if-kind-eq4.false, ne_eqb _ _ c.if-count-eq1.false)

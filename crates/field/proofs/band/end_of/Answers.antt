@@ -1,0 +1,21 @@
+-- `field::band::end_of` meets its contract. Assumes nothing.
+use Prim.Native.Nat.{◌≤◌}
+use native.Mathlib.Omega.{arith}
+use lib.ListN.{length}
+use borrow.Author.Tests.{ne_eqb}
+use Rattle.field.specs.Bands.{Unmarked}
+use Rattle.field.proofs.BandLaws.{unmarked_none, unmarked_part, unmarked_down}
+use Rattle.field.proofs.band.end_of.Goals as goal
+
+pub loop-end-init : goal.loop-end-init
+loop-end-init c = (omega arith, unmarked_none _ _)
+
+pub returns-then-marks-k-eq1 : goal.returns-then-marks-k-eq1
+returns-then-marks-k-eq1 c = c.loop-end.invariant
+
+pub loop-end-preserved : goal.loop-end-preserved
+loop-end-preserved c =    let i = c.loop-end.invariant in
+    (omega arith, unmarked_down _ _ _ (unmarked_part _ _ _ _ _ i.1 (omega arith) (omega arith)) (ne_eqb _ _ c.if-marks-k-eq1.false))
+
+pub returns : goal.returns
+returns c = let i = c.loop-end.invariant in (omega arith, unmarked_part _ _ _ _ _ i.1 (omega arith) (omega arith))

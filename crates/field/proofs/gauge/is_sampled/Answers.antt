@@ -1,0 +1,8 @@
+-- `field::gauge::is_sampled` meets its contract. Assumes nothing.
+use mathlib.Core.Path.{ap}
+use Rattle.distance.specs.declared.limits.Threshold.{Threshold}
+use borrow.Author.Rules.{rules}
+use Rattle.field.proofs.gauge.is_sampled.Goals as goal
+
+pub beyond-requires : goal.beyond-requires
+beyond-requires c =  let t = c.requires.gauged.far in record { limit_of = t.limit; strict_value = ap (λ (b : Threshold). b.strict) t.is; }

@@ -1,0 +1,7 @@
+-- `field::round::clear_dirty` meets its contract. Assumes nothing.
+use Rattle.field.proofs.RoundLaws.{dirty-is}
+use borrow.Author.Rules.{rules}
+use Rattle.field.proofs.round.clear_dirty.Goals as goal
+
+pub returns : goal.returns
+returns c = dirty-is _ c.requires.sides _ c.cells-n.ensures _ _ _ c.dirty-a.ensures c.requires.nx_in_bounds c.fill_bytes.ensures

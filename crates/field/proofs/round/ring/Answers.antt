@@ -1,0 +1,39 @@
+-- `field::round::ring` meets its contract. Assumes nothing.
+use mathlib.Core.Path.{◌≡◌, refl, ap, ◌∙◌}
+use mathlib.Core.Logic.{⊎_elim}
+use Prim.Native.Nat.{◌-◌}
+use native.Mathlib.Omega.{arith}
+use lib.ListN.{length}
+use lib.Ieee.{nan}
+use borrow.Author.Tests.{eq-eqb, ne_eqb}
+use Rattle.loops.proofs.LoopLaws.{Going, going_none, going_more, going_end}
+use Rattle.field.specs.Field.{ring_at}
+use Rattle.field.proofs.RoundLaws.{write_at, written_long, written_all}
+use Rattle.field.proofs.round.ring.Goals as goal
+use Rattle.field.proofs.round.ring.Goals.{At-loop-k}
+
+long : (c : At-loop-k) → length c.loop-k.f ≡ length c.args.f.now
+long c = ap length c.loop-k.invariant.is ∙ written_long nan (ring_at c.args.allowed.now) c.loop-k.k c.args.f.now (omega (arith, c.loop-k.invariant.high))
+
+pub loop-k-init : goal.loop-k-init
+loop-k-init c = going_none _ _ _ _
+
+pub bounds-allowed-k : goal.bounds-allowed-k
+bounds-allowed-k c = omega (arith, c.requires, c.loop-k-test.true)
+
+pub offset_bounds-f-k : goal.offset_bounds-f-k
+offset_bounds-f-k c = omega (arith, long (goal.at.offset_bounds-f-k c).At-loop-k)
+
+pub bounds-f-k : goal.bounds-f-k
+bounds-f-k c = omega (arith, long (goal.at.bounds-f-k c).At-loop-k, c.loop-k-test.true)
+
+pub loop-k-preserved : goal.loop-k-preserved
+loop-k-preserved c =    let l = c.loop-k in
+    going_more _ _ _ _ _ _ _ l.invariant c.loop-k-test.true
+    (⊎_elim (λ w. rw (w.1, eq-eqb _ _ w.0.taken) refl) (λ w. rw (w.1, ne_eqb _ _ w.0.left) refl) c.if-allowed-k-eq1.branch)
+
+pub shape_of-f : goal.shape_of-f
+shape_of-f c = long (goal.at.shape_of-f c).At-loop-k
+
+pub returns : goal.returns
+returns c = going_end _ _ _ _ _ _ c.loop-k.invariant c.loop-k-test.false ∙ written_all nan (ring_at c.args.allowed.now) c.args.f.now

@@ -1,0 +1,26 @@
+-- `filling::columns::turn` meets its contract. The invariant: the bytes before i are turned round. Assumes nothing.
+use mathlib.Core.Logic.{⊎_elim}
+use Prim.Native.Nat.{◌-◌, ◌≤◌, max}
+use native.Mathlib.Omega.{arith}
+use Rattle.filling.specs.Columns.{Turned}
+use Rattle.filling.proofs.ColumnLaws.{turned_none, turned_more, turned-end, flip_one, flip_other}
+use Rattle.filling.proofs.columns.turn.Goals as goal
+
+pub loop-i-init : goal.loop-i-init
+loop-i-init c = (omega arith, omega arith, turned_none _ _)
+
+pub bounds-row-i : goal.bounds-row-i
+bounds-row-i c = omega (arith, c.loop-i.invariant.2.long)
+
+pub bounds-row-i-in-loop-i : goal.bounds-row-i-in-loop-i
+bounds-row-i-in-loop-i c = omega (arith, c.loop-i.invariant.2.long)
+
+pub loop-i-preserved : goal.loop-i-preserved
+loop-i-preserved c =    let l = c.loop-i in
+    (omega arith, omega arith, turned_more _ _ _ _ _ l.invariant.2 l.invariant.0 (omega arith) (⊎_elim (λ w. flip_one _ _ w.0.taken w.1) (λ w. flip_other _ _ w.0.left w.1) c.if-row-i-eq1.branch))
+
+pub shape_of-row : goal.shape_of-row
+shape_of-row c = c.loop-i.invariant.2.long
+
+pub returns : goal.returns
+returns c = turned-end _ _ _ _ _ c.loop-i.invariant.2 (omega arith) (omega arith)

@@ -1,0 +1,11 @@
+-- `filling::crossings::previous` meets its contract. Assumes nothing.
+use native.Mathlib.Omega.{arith}
+use borrow.Author.Rules.{rules}
+use borrow.Author.Tests.{eq-eqb, ne_eqb}
+use Rattle.filling.proofs.crossings.previous.Goals as goal
+
+pub returns-then-i-eq0 : goal.returns-then-i-eq0
+returns-then-i-eq0 c = (rw (eq-eqb c.args.i 0 c.if-i-eq0.true), omega arith)
+
+pub returns-else-i-eq0 : goal.returns-else-i-eq0
+returns-else-i-eq0 c = (rw (ne_eqb c.args.i 0 c.if-i-eq0.false), omega arith)

@@ -1,0 +1,22 @@
+-- `flood::place::farthest` meets its contract. Assumes nothing.
+use Prim.Native.Nat.{◌-◌}
+use native.Mathlib.Omega.{arith}
+use Rattle.setup.specs.Layout.{map_in, allowed_in}
+use Rattle.workspace.specs.Standing.{reach_in, abandoned_in}
+use Rattle.loops.proofs.LoopLaws.{Going, going_none, going_more, going_end}
+use Rattle.flood.specs.Place.{farther_of, farthest_of}
+use Rattle.flood.specs.declared.place.Far.TheVariants.{Nothing}
+use Rattle.flood.proofs.place.farthest.Goals as goal
+
+pub loop-k-init : goal.loop-k-init
+loop-k-init c = going_none _ _ _ _
+
+pub farther-best-requires : goal.farther-best-requires
+farther-best-requires c =  let p = c.requires in record { n_le_most = p.n_le_most; n_in_bounds = p.n_in_bounds; n_in_bounds_2 = p.n_in_bounds_2; k_lt_n = c.loop-k-test.true; }
+
+pub loop-k-preserved : goal.loop-k-preserved
+loop-k-preserved c = going_more _ _ _ _ _ _ _ c.loop-k.invariant c.loop-k-test.true c.farther-best.ensures
+
+pub returns : goal.returns
+unfolding farthest_of
+returns c = going_end _ _ _ _ _ _ c.loop-k.invariant c.loop-k-test.false

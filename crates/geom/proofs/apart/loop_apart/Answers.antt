@@ -1,0 +1,26 @@
+-- `geom::apart::loop_apart` meets its contract. The invariant: no edge before i comes near. Assumes nothing.
+use Prim.Native.Nat.{◌-◌, ◌≤◌}
+use native.Mathlib.Omega.{arith}
+use borrow.Author.Tests.{not-false}
+use Rattle.loops.specs.Loop.{any}
+use Rattle.loops.proofs.Cases.{never}
+use Rattle.geom.specs.Segment.{edge_within, loop_within}
+use Rattle.geom.specs.Apart.{Apart}
+use Rattle.geom.proofs.ApartLaws.{apart_none, apart_more, apart-end}
+use Rattle.geom.proofs.apart.loop_apart.Goals as goal
+
+pub loop-i-init : goal.loop-i-init
+loop-i-init c = (omega arith, apart_none _ _)
+
+pub edge_apart-requires : goal.edge_apart-requires
+edge_apart-requires c = record { n_in_bounds = omega arith; rooted = c.requires.rooted; }
+
+pub returns-then-not-edge_apart : goal.returns-then-not-edge_apart
+returns-then-not-edge_apart c = never
+
+pub loop-i-preserved : goal.loop-i-preserved
+loop-i-preserved c = (omega arith, apart_more _ _ _ c.loop-i.invariant.1 (c.edge_apart.ensures (not-false _ c.if-not-edge_apart.false)))
+
+pub returns : goal.returns
+unfolding loop_within
+returns c = λ t. apart-end _ _ _ _ c.loop-i.invariant.0 c.loop-i-test.false c.loop-i.invariant.1

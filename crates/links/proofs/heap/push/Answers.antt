@@ -1,0 +1,7 @@
+-- `links::heap::push` meets its contract. Assumes nothing.
+use Rattle.links.proofs.HoldLaws.{pushed}
+use borrow.Author.Rules.{rules}
+use Rattle.links.proofs.heap.push.Goals as goal
+
+pub returns : goal.returns
+returns c = pushed _ _ _ _ _ _ _ c.requires.lent c.rise-k.ensures _ _ c.write.ensures

@@ -1,0 +1,9 @@
+-- `links::link::shade_nodes` meets its contract. Assumes nothing.
+use Rattle.links.proofs.TellLaws.{shaded_tell}
+use borrow.Author.Rules.{rules}
+use Rattle.links.proofs.link.shade_nodes.Goals as goal
+
+pub returns : goal.returns
+returns c =  let p = c.requires in
+    let r = shaded_tell _ p.laid c.args.map.now _ p.limited p.takes _ _ c.shade.ensures in
+    record { telling = r.0; work_len_unchanged = r.1; }

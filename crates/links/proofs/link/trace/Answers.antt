@@ -1,0 +1,34 @@
+-- `links::link::trace` meets its contract. Assumes nothing.
+use native.Mathlib.Omega.{arith}
+use Rattle.loops.specs.Regions.{within}
+use Rattle.links.proofs.LatticeLaws.{nodes-most, nodes-few}
+use Rattle.links.proofs.LinkLaws.{lay_asks, shorten_asks, trace_is}
+use borrow.Author.Rules.{rules}
+use Rattle.links.proofs.link.trace.Goals as goal
+
+pub overflow_add-last : goal.overflow_add-last
+overflow_add-last c = omega (arith, c.before-first.ensures, c.cells.ensures, c.nodes_of-n.ensures, nodes-most _ c.requires.laid, c.requires.laid.sides.cells)
+
+pub slice_bounds-lay-end : goal.slice_bounds-lay-end
+slice_bounds-lay-end c = omega (arith, c.before-first.ensures, c.cells.ensures, c.nodes_of-n.ensures, nodes-few _ c.requires.laid, c.requires.l_in_bounds)
+
+pub slice_bounds-lay-end-2 : goal.slice_bounds-lay-end-2
+slice_bounds-lay-end-2 c = omega (arith, c.path-a.ensures, c.cells-size.ensures, c.requires.fitted.long)
+
+pub lay-k-requires : goal.lay-k-requires
+unfolding within
+lay-k-requires c = 
+    let r = lay_asks _ _ _ _ _ c.requires.fitted _ c.requires.laid c.requires.grid_value c.args.u.now c.requires.l_in_bounds _ c.nodes_of-n.ensures _ c.cells.ensures _ c.before-first.ensures _ c.cells-size.ensures _ c.path-a.ensures c.requires.befores in
+    record { laid = r.0; before_len = r.1.0; befores = r.1.1.0; l_in_bounds = r.1.1.1; }
+
+pub shorten-requires : goal.shorten-requires
+unfolding within
+shorten-requires c =  let e = c.lay-k.ensures in
+    let r = shorten_asks _ _ _ _ _ c.requires.fitted _ c.requires.laid c.requires.grid_value c.args.u.now c.requires.l_in_bounds _ c.nodes_of-n.ensures _ c.cells.ensures _ c.before-first.ensures _ c.cells-size.ensures _ c.path-a.ensures c.lay-k.new.1.1.0 _ e.upper_bound e.ps_len_unchanged c.args.tiles.now c.requires.tiled in
+    record { fitted = r.0; tiled = r.1.0; at_le_end = r.1.1.0; end_bound = r.1.1.1; }
+
+pub returns : goal.returns
+unfolding within
+returns c =  let e = c.lay-k.ensures in let r = c.shorten.ensures in
+    let r = trace_is _ _ _ _ _ c.requires.fitted _ c.requires.laid c.requires.grid_value c.args.u.now c.requires.l_in_bounds _ c.nodes_of-n.ensures _ c.cells.ensures _ c.before-first.ensures _ c.cells-size.ensures _ c.path-a.ensures c.lay-k.new.1.1.0 _ e.upper_bound e.ps_len_unchanged _ _ e.ps_after c.shorten.result _ r.w_after r.only in
+    record { w_after = r.0; only = r.1; }

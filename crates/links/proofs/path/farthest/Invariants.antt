@@ -1,0 +1,14 @@
+-- `links::path::farthest` meets its contract. The invariant: no point from k on is in view. Assumes nothing.
+use Rattle.links.specs.Path.{farthest_of, clear_in, path_in}
+use Rattle.geom.specs.Region.{vertex_of}
+use Prim.Native.Nat.{◌-◌, ◌≤◌}
+use mathlib.Core.Path.{◌≡◌, refl, ap, ◌∙◌}
+use native.Mathlib.Omega.{arith}
+use Rattle.links.proofs.ShortenLaws.{far-found, far_more, far_none}
+use Rattle.links.proofs.path.farthest.Given as goal
+
+abbrev pub invariant-loop-k : goal.invariant-loop-k
+invariant-loop-k l = (l.first ≤ l.k) × ((l.k ≤ l.end) × (farthest_of (clear_in l.s l.vs l.lens l.map l.w) (vertex_of (path_in l.s l.w)) l.here l.first (l.k - l.first) ≡ farthest_of (clear_in l.s l.vs l.lens l.map l.w) (vertex_of (path_in l.s l.w)) l.here l.first (l.end - l.first)))
+
+abbrev pub decreases-loop-k : goal.decreases-loop-k
+decreases-loop-k l = l.k

@@ -1,0 +1,16 @@
+-- `links::straight::link_clear` meets its contract. Assumes nothing.
+use Rattle.links.proofs.StraightLaws.{link-long, link-blocked, link-judged}
+use borrow.Author.Rules.{rules}
+use Rattle.links.proofs.straight.link_clear.Goals as goal
+
+pub returns-then-n-gt200000 : goal.returns-then-n-gt200000
+returns-then-n-gt200000 c = link-long _ _ _ _ _ _ _ _ c.steps_of-n.ensures c.if-n-gt200000.true
+
+pub samples_clear-requires : goal.samples_clear-requires
+samples_clear-requires c =  let p = c.requires in record { walls = p.walls; over = p.over; tiled = p.tiled; tables = p.tables; n_bound = c.if-n-gt200000.false; }
+
+pub returns-then-samples_clear : goal.returns-then-samples_clear
+returns-then-samples_clear c = link-judged _ _ _ _ _ _ _ _ c.steps_of-n.ensures c.if-n-gt200000.false _ c.samples_clear.ensures c.if-samples_clear.true _ c.count_disk.ensures
+
+pub returns : goal.returns
+returns c = link-blocked _ _ _ _ _ _ _ _ c.steps_of-n.ensures c.if-n-gt200000.false _ c.samples_clear.ensures c.if-samples_clear.false

@@ -1,0 +1,15 @@
+-- `links::straight::samples_clear` meets its contract. The invariant: no sample before k is blocked. Assumes nothing.
+use mathlib.Core.Path.{◌≡◌, ap, ◌∙◌}
+use mathlib.Core.Bool.{false, not}
+use Prim.Native.Nat.{◌-◌, ◌+◌}
+use native.Mathlib.Omega.{arith}
+use borrow.Author.Rules.{rules}
+use Rattle.loops.specs.Loop.{or_at}
+use Rattle.loops.proofs.LoopLaws.{Going, going_none, any-on, any_out, any_none}
+use Rattle.setup.specs.Tables.{less_of}
+use Rattle.links.specs.Straight.{sample_blocked, samples_clear}
+use Rattle.links.proofs.StraightLaws.{blocked-is}
+use Rattle.links.proofs.straight.samples_clear.Given as goal
+
+abbrev pub invariant-loop-k : goal.invariant-loop-k
+invariant-loop-k l = Going (or_at (sample_blocked l.s l.wall l.vs l.lens l.map (less_of l.s) l.a l.b l.n)) 0 (l.n + 1) false false l.k

@@ -1,0 +1,38 @@
+-- `numbers::circle::cos` meets its contract: an arm for each quadrant. Assumes nothing.
+use Rattle.std.proofs.Common.{◌≡◌, ℕ, sym, ap, ◌∙◌, le_trans, arith, lit≤, le→leb, rules}
+use lib.Ieee.{neg, in_float}
+use Rattle.numbers.specs.Circle.{rest, cos_at, cos_of}
+use Rattle.numbers.proofs.circle.cos.Goals as goal
+use Rattle.numbers.proofs.circle.cos.Goals.{After-row_known-1}
+
+-- in the quadrant k
+at : (k : ℕ) (c : After-row_known-1) → c.quadrant-q.result ≡ k → cos_at k (rest c.quadrant-q.result c.args.a) ≡ cos_of c.args.a
+unfolding cos_of
+at k c e =
+    let a = c.args.a in
+    ap (λ (j : ℕ). cos_at j (rest c.quadrant-q.result a)) (sym e) ∙ ap (λ (j : ℕ). cos_at j (rest j a)) c.quadrant-q.ensures.0
+
+pub int_to_float-y : goal.int_to_float-y
+unfolding in_float
+int_to_float-y c = le→leb c.quadrant-q.result 9007199254740992 (le_trans c.quadrant-q.ensures.1 (lit≤ tt))
+
+pub returns-then-q-eq0 : goal.returns-then-q-eq0
+unfolding cos_at
+returns-then-q-eq0 c = c.cos_series.ensures ∙ at 0 (goal.at.returns-then-q-eq0 c).After-row_known-1 c.if-q-eq0.true
+
+pub returns-then-q-eq1 : goal.returns-then-q-eq1
+unfolding cos_at
+returns-then-q-eq1 c = ap neg c.sin_series.ensures ∙ at 1 (goal.at.returns-then-q-eq1 c).After-row_known-1 c.if-q-eq1.true
+
+pub returns-then-q-eq2 : goal.returns-then-q-eq2
+unfolding cos_at
+returns-then-q-eq2 c = ap neg c.cos_series-then-q-eq2.ensures ∙ at 2 (goal.at.returns-then-q-eq2 c).After-row_known-1 c.if-q-eq2.true
+
+pub returns-then-q-eq3 : goal.returns-then-q-eq3
+unfolding cos_at
+returns-then-q-eq3 c = c.sin_series-then-q-eq3.ensures ∙ at 3 (goal.at.returns-then-q-eq3 c).After-row_known-1 c.if-q-eq3.true
+
+pub returns-else-q-eq3 : goal.returns-else-q-eq3
+unfolding cos_at
+returns-else-q-eq3 c =    let e : c.quadrant-q.result ≡ 4 = omega (arith, c.quadrant-q.ensures.1, c.if-q-eq0.false, c.if-q-eq1.false, c.if-q-eq2.false, c.if-q-eq3.false) in
+    c.cos_series-else-q-eq3.ensures ∙ at 4 (goal.at.returns-else-q-eq3 c).After-row_known-1 e

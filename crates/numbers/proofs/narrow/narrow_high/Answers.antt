@@ -1,0 +1,75 @@
+-- `numbers::narrow::narrow_high` meets its contract: 53 digits stay where they are, and 24 of them are kept. Assumes nothing.
+use Rattle.std.proofs.Common.{◌≡◌, ℕ, ◌+◌, ◌-◌, ◌*◌, ◌/◌, ◌%◌, ◌^◌, ◌<◌, ◌≤◌, T, sym, ap, ◌∙◌, subst, ⊎_elim, le_of_eq, le_of_lt, mod-lt, arith, pow_pos}
+use lib.Ieee.{binary32, binary64, fits, of_bits, to_bits}
+use lib.Ieee.Nearest.{closest}
+use Rattle.numbers.specs.Narrow.{narrow_of}
+use Rattle.numbers.specs.Mantissa.{Shifted}
+use Rattle.numbers.proofs.PartLaws.{digits_are}
+use Rattle.numbers.proofs.ShiftLaws.{carried}
+use Rattle.numbers.proofs.NarrowLaws.{no_nan_bits, no_nan_high, High, high, High_shifted, high_e, narrow_bits, narrow_over}
+use Rattle.numbers.proofs.narrow.narrow_high.Goals as goal
+use Rattle.numbers.proofs.narrow.narrow_high.Goals.{After-moved-p, After-nearest_shift-b, Joined-b-lt2139095040, Start}
+
+held : (c : Start) → T (fits binary64 c.args.x)
+held c = subst T (sym c.well_formed.0.1) tt
+
+field : (c : Start) → High c.args.x
+field c = high c.args.x (held c) c.requires
+
+shifted : (c : After-moved-p) → High_shifted c.args.x c.moved-p.result.m c.moved-p.result.e
+shifted c =
+    let b = to_bits binary64 c.args.x in
+    subst (λ (k : ℕ). Shifted k (b / 2 ^ 52 - 1) c.moved-p.result.m c.moved-p.result.e) (digits_are b) c.moved-p.ensures
+
+-- what is rounded is the pattern
+pattern : (c : After-nearest_shift-b) → c.nearest_shift-b.result ≡ (c.moved-p.result.e - 948) * 8388608 + closest c.moved-p.result.m (2 ^ 29)
+pattern c = c.nearest_shift-b.ensures ∙ carried (c.moved-p.result.e - 948) c.moved-p.result.m
+
+is : (c : Joined-b-lt2139095040) → (c.if-b-lt2139095040.b ≤ 0x7f80_0000) × (of_bits binary32 c.if-b-lt2139095040.b ≡ narrow_of c.args.x)
+unfolding of_bits
+is c =
+    let x = c.args.x in
+    ⊎_elim
+    (λ w. (
+      subst (λ (z : ℕ). z ≤ 0x7f80_0000) (sym w.1) (le_of_lt w.0.taken),
+      ap (of_bits binary32) (w.1 ∙ pattern c.before)
+          ∙ narrow_bits x (held c.before.before.before.before.before) c.requires c.moved-p.result.m c.moved-p.result.e (shifted c.before.before.before.before) (subst (λ (z : ℕ). z < 0x7f80_0000) (pattern c.before) w.0.taken),
+    ))
+    (λ w. (
+      le_of_eq w.1,
+      ap (of_bits binary32) w.1
+          ∙ narrow_over x (held c.before.before.before.before.before) c.requires c.moved-p.result.m c.moved-p.result.e (shifted c.before.before.before.before) (subst (λ (z : ℕ). 0x7f80_0000 ≤ z) (pattern c.before) w.0.left),
+    ))
+    c.if-b-lt2139095040.branch
+
+pub float_to_bits-bits : goal.float_to_bits-bits
+float_to_bits-bits c = no_nan_high c.args.x c.requires
+
+pub overflow_sub-bits : goal.overflow_sub-bits
+overflow_sub-bits c = omega (arith, (field (goal.at.overflow_sub-bits c).Start).lo)
+
+pub moved-p-requires : goal.moved-p-requires
+moved-p-requires c =     let b = to_bits binary64 c.args.x in
+    let d = digits_are b in
+    let l : b % 2 ^ 52 < 2 ^ 52 = mod-lt b (pow_pos 52) in record { q_nonzero = subst (λ (k : ℕ). 0 < k) (sym d) (omega arith); q_bound = subst (λ (k : ℕ). k < 2 ^ 53) (sym d) (omega arith); j_bound = omega (arith, (field (goal.at.moved-p-requires c).Start).hi); }
+
+pub overflow_sub-p : goal.overflow_sub-p
+overflow_sub-p c = high_e c.args.x c.moved-p.result.m c.moved-p.result.e (field (goal.at.overflow_sub-p c).Start) (shifted (goal.at.overflow_sub-p c).After-moved-p)
+
+pub overflow_mul-p : goal.overflow_mul-p
+overflow_mul-p c = omega (arith, c.moved-p.ensures.few, (field (goal.at.overflow_mul-p c).Start).hi)
+
+pub overflow_add-p : goal.overflow_add-p
+overflow_add-p c = omega (arith, c.moved-p.ensures.few, c.moved-p.ensures.hi, (field (goal.at.overflow_add-p c).Start).hi)
+
+pub nearest_shift-b-requires : goal.nearest_shift-b-requires
+nearest_shift-b-requires c = record { m_bound = omega (arith, c.moved-p.ensures.few, c.moved-p.ensures.hi, (field (goal.at.nearest_shift-b-requires c).Start).hi); d_nonzero = omega arith; d_bound = omega arith; }
+
+pub overflow_cast-result : goal.overflow_cast-result
+overflow_cast-result c = omega (arith, (is (goal.at.overflow_cast-result c).Joined-b-lt2139095040).0)
+
+pub float_from_bits-result : goal.float_from_bits-result
+float_from_bits-result c = no_nan_bits _ (is (goal.at.float_from_bits-result c).Joined-b-lt2139095040).0
+
+pub returns : goal.returns
+returns c = (is (goal.at.returns c).Joined-b-lt2139095040).1

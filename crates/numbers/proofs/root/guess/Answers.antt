@@ -1,0 +1,11 @@
+-- `numbers::root::guess` is safe: no pattern that it reads or makes is a NaN's. Nothing is said of its answer. Assumes nothing.
+use Rattle.std.proofs.Common.{arith, rules}
+use Rattle.numbers.proofs.OrderLaws.{no_nan_below}
+use Rattle.numbers.proofs.RootLaws.{no_nan_bits}
+use Rattle.numbers.proofs.root.guess.Goals as goal
+
+pub float_from_bits-v : goal.float_from_bits-v
+float_from_bits-v c = no_nan_bits _ (omega (arith, c.requires))
+
+pub float_to_bits-result : goal.float_to_bits-result
+float_to_bits-result c = no_nan_below _ _ c.if-r.true

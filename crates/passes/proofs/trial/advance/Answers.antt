@@ -1,0 +1,12 @@
+-- `passes::trial::advance` meets its contract. Assumes nothing.
+use Rattle.loops.specs.Regions.{within}
+use Rattle.passes.proofs.SimulateLaws.{advance_is}
+use borrow.Author.Rules.{rules}
+use Rattle.passes.proofs.trial.advance.Goals as goal
+
+pub clear_crescent-n-requires : goal.clear_crescent-n-requires
+unfolding within
+clear_crescent-n-requires c =  let p = c.requires in record { over = p.fit.over; ready = p.fit.ready; spanning = p.tables.spans; }
+
+pub returns : goal.returns
+returns c = advance_is _ _ _ _ _ _ _ _ _ _ _ _ _ c.clear_crescent-n.ensures c.put_triple.ensures

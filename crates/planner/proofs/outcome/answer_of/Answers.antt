@@ -1,0 +1,19 @@
+-- `planner::outcome::answer_of` meets its contract. Assumes nothing.
+use Rattle.planner.proofs.AnswerLaws.{answer_stopped, answer-unentered, answer_accepted, listed-rows}
+use Rattle.planner.specs.Planner.{unentered}
+use borrow.Author.Rules.{rules}
+use Rattle.planner.proofs.outcome.answer_of.Goals as goal
+
+pub returns-then-t-starting : goal.returns-then-t-starting
+unfolding unentered
+returns-then-t-starting c = answer-unentered _ _ _ _ _ _ _ _ _ _ c.in-Finished.is c.if-t-starting.true
+
+pub report_of-requires : goal.report_of-requires
+report_of-requires c =  let p = c.requires in record { sides = p.sides; s_in_bounds = p.s_in_bounds; rows_in_bounds = listed-rows _ _ _ _ _ c.in-Finished.is p.listed_end; }
+
+pub returns-in-Refused : goal.returns-in-Refused
+returns-in-Refused c = answer_stopped _ _ _ _ _ _ _ _ _ c.in-Refused.is
+
+pub returns-else-t-starting : goal.returns-else-t-starting
+unfolding unentered
+returns-else-t-starting c = answer_accepted _ _ _ _ _ _ _ _ _ _ c.in-Finished.is c.if-t-starting.false _ c.report_of.ensures

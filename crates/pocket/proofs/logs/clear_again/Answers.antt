@@ -1,0 +1,24 @@
+-- `pocket::logs::clear_again` meets its contract. Assumes nothing.
+use mathlib.Core.Path.{sym, ap, ◌∙◌}
+use mathlib.Core.List.{List}
+use Prim.Native.Nat.{ℕ}
+use borrow.Author.Rules.{rules}
+use Rattle.pocket.specs.declared.answers.Done.TheVariants.{Refused, Finished}
+use Rattle.pocket.specs.Leaves.{on_map, clear_again_of}
+use Rattle.pocket.proofs.LeafLaws.{is-refused, is-answered}
+use Rattle.pocket.proofs.LoggedLaws.{logged-is}
+use Rattle.pocket.proofs.logs.clear_again.Goals as goal
+
+pub returns-then-no-ne0 : goal.returns-then-no-ne0
+unfolding clear_again_of
+returns-then-no-ne0 c =    let s = c.args in
+    is-refused (λ n. on_map (Refused n) s.map.now) _ _ c.log_refusal-no.ensures c.if-no-ne0.true _
+
+pub clear_again-requires : goal.clear_again-requires
+clear_again-requires c =    let s = c.args in
+    logged-is _ _ _ s.log.now _ (sym c.log_refusal-no.ensures ∙ c.if-no-ne0.false)
+
+pub returns : goal.returns
+unfolding clear_again_of
+returns c =    let s = c.args in
+    is-answered (λ n. on_map (Refused n) s.map.now) _ _ c.log_refusal-no.ensures c.if-no-ne0.false _ _ (ap (λ (m : List ℕ). on_map Finished m) c.clear_again.ensures)

@@ -1,0 +1,6 @@
+-- `pocket::ranges::cell_fits` meets its contract. Assumes nothing.
+use borrow.Author.Rules.{rules}
+use Rattle.pocket.proofs.ranges.cell_fits.Goals as goal
+
+pub returns : goal.returns
+returns c = c.is_in_range.ensures

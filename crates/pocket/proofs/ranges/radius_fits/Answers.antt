@@ -1,0 +1,6 @@
+-- `pocket::ranges::radius_fits` meets its contract. Assumes nothing.
+use borrow.Author.Rules.{rules}
+use Rattle.pocket.proofs.ranges.radius_fits.Goals as goal
+
+pub returns : goal.returns
+returns c = c.is_in_range.ensures

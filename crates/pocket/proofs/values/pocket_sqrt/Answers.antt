@@ -1,0 +1,8 @@
+-- `pocket::values::pocket_sqrt` meets its contract. Assumes nothing.
+use mathlib.Core.Path.{ap, ◌∙◌}
+use borrow.Author.Rules.{rules}
+use Rattle.pocket.specs.Answers.{of_number}
+use Rattle.pocket.proofs.values.pocket_sqrt.Goals as goal
+
+pub returns : goal.returns
+returns c = c.of_number.ensures ∙ ap of_number c.sqrt.ensures

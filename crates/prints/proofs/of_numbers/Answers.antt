@@ -1,0 +1,20 @@
+-- `prints::of_numbers` meets its contract. The invariant: the fingerprint is of the numbers so far. Assumes nothing.
+use native.Mathlib.Omega.{arith}
+use Rattle.loops.proofs.LoopLaws.{Going, going_none, going_more, going_end}
+use borrow.Author.Rules.{rules}
+use Prim.Native.Nat.{◌-◌}
+use Rattle.prints.specs.Print.{mix_at, print_of}
+use Rattle.prints.proofs.of_numbers.Goals as goal
+
+pub loop-k-init : goal.loop-k-init
+loop-k-init c = going_none _ _ _ _
+
+pub overflow_cast-s : goal.overflow_cast-s
+overflow_cast-s c = omega (arith, c.shared_slice_known-in-loop-k-1.given c.loop-k.k)
+
+pub loop-k-preserved : goal.loop-k-preserved
+loop-k-preserved c = going_more _ _ _ _ _ _ _ c.loop-k.invariant c.loop-k-test.true c.mix-h.ensures
+
+pub returns : goal.returns
+unfolding print_of
+returns c = going_end _ _ _ _ _ _ c.loop-k.invariant c.loop-k-test.false

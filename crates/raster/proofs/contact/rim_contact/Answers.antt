@@ -1,0 +1,11 @@
+-- `raster::contact::rim_contact` meets its contract. Assumes nothing.
+use mathlib.Core.Path.{sym}
+use Rattle.raster.proofs.ContactLaws.{rim-same, contact-is}
+use borrow.Author.Rules.{rules}
+use Rattle.raster.proofs.contact.rim_contact.Goals as goal
+
+pub hits-requires : goal.hits-requires
+hits-requires c = record { over = c.requires.over; rim = rim-same (sym c.samples_of-n.ensures) c.requires.rim; }
+
+pub returns : goal.returns
+returns c = contact-is _ _ _ _ _ _ _ c.samples_of-n.ensures c.hits.ensures

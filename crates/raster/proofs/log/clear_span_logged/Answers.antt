@@ -1,0 +1,23 @@
+-- `raster::log::clear_span_logged` meets its contract. Assumes nothing.
+use native.Mathlib.Omega.{arith}
+use Rattle.raster.proofs.SweepLaws.{inside_cols, span_none, span_cols}
+use borrow.Author.Rules.{rules}
+use Rattle.raster.proofs.log.clear_span_logged.Goals as goal
+
+pub overflow_add-base : goal.overflow_add-base
+overflow_add-base c = omega (arith, inside_cols _ _ _ _ _ c.in-Cols.is c.requires.inside)
+
+pub overflow_add-base-in-Cols : goal.overflow_add-base-in-Cols
+overflow_add-base-in-Cols c = omega (arith, inside_cols _ _ _ _ _ c.in-Cols.is c.requires.inside)
+
+pub overflow_add-base-in-Cols-2 : goal.overflow_add-base-in-Cols-2
+overflow_add-base-in-Cols-2 c = omega (arith, inside_cols _ _ _ _ _ c.in-Cols.is c.requires.inside)
+
+pub clear_run-requires : goal.clear_run-requires
+clear_run-requires c = record { to_in_bounds = omega (arith, inside_cols _ _ _ _ _ c.in-Cols.is c.requires.inside); ready = c.requires.ready; }
+
+pub returns-in-Empty : goal.returns-in-Empty
+returns-in-Empty c = span_none _ _ _ _ c.in-Empty.is
+
+pub returns-in-Cols : goal.returns-in-Cols
+returns-in-Cols c = span_cols _ _ _ _ _ _ _ c.in-Cols.is c.clear_run.ensures

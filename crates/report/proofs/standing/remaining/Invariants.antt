@@ -1,0 +1,11 @@
+-- `report::standing::remaining` meets its contract. Assumes nothing.
+use Prim.Native.Nat.{◌-◌}
+use native.Mathlib.Omega.{arith}
+use lib.ListN.{length}
+use Rattle.loops.proofs.LoopLaws.{Going, going_none, going_more, going_end}
+use Rattle.report.specs.Report.{rem, remain_at, remaining_of}
+use Rattle.report.proofs.StandingLaws.{going_few}
+use Rattle.report.proofs.standing.remaining.Given as goal
+
+abbrev pub invariant-loop-k : goal.invariant-loop-k
+invariant-loop-k l = Going (remain_at l.map l.reachable) 0 (length l.map) (rem 0 0) l.t l.k

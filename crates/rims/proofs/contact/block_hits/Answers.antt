@@ -1,0 +1,41 @@
+-- `rims::contact::block_hits` meets its contract. The invariant: the hits are those of the block's samples so far. Assumes nothing.
+use mathlib.Core.Path.{sym, ◌∙◌, ap}
+use mathlib.Core.Logic.{⊎_elim}
+use Prim.Native.Nat.{ℕ, ◌-◌, ◌*◌}
+use native.Mathlib.Omega.{arith}
+use Rattle.loops.specs.Loop.{loop}
+use Rattle.loops.proofs.LoopLaws.{Going, going_none, going_more, going_end}
+use Rattle.raster.specs.Contact.{hit_at}
+use Rattle.raster.proofs.ContactLaws.{hit_yes, hit_no}
+use Rattle.rims.proofs.HitLaws.{hits_few}
+use Rattle.rims.proofs.contact.block_hits.Goals as goal
+
+pub overflow_step-k : goal.overflow_step-k
+overflow_step-k c = let p = c.requires.1 in omega (arith, p.1, p.0.few)
+
+pub overflow_mul-b : goal.overflow_mul-b
+overflow_mul-b c = let p = c.requires.1 in omega (arith, p.1, p.0.few)
+
+pub overflow_add-b : goal.overflow_add-b
+overflow_add-b c = let p = c.requires.1 in omega (arith, p.1, p.0.few)
+
+pub least-k-end-requires : goal.least-k-end-requires
+least-k-end-requires c = tt
+
+pub loop-k-init : goal.loop-k-init
+loop-k-init c = going_none _ _ _ _
+
+pub sample_hit-requires : goal.sample_hit-requires
+sample_hit-requires c =  let p = c.requires in record { over = p.over; around = p.around; k_lt_n = omega (arith, c.loop-k-test.true, c.least-k-end.ensures); }
+
+pub overflow_add-h : goal.overflow_add-h
+overflow_add-h c = let l = c.loop-k in
+    omega (arith, l.invariant.is, hits_few c.args.g c.args.map.now c.args.c c.args.r c.args.n (8 * c.args.b) l.k l.invariant.low, c.loop-k-test.true, c.least-k-end.ensures, c.requires.around.few)
+
+pub loop-k-preserved : goal.loop-k-preserved
+loop-k-preserved c = going_more _ _ _ _ _ _ _ c.loop-k.invariant c.loop-k-test.true
+    (⊎_elim (λ w. w.1 ∙ hit_yes _ _ _ _ _ _ _ (sym c.sample_hit.ensures ∙ w.0.taken)) (λ w. w.1 ∙ hit_no _ _ _ _ _ _ _ (sym c.sample_hit.ensures ∙ w.0.left)) c.if-sample_hit.branch)
+
+pub returns : goal.returns
+returns c = let s = c.args in
+    going_end _ _ _ _ _ _ c.loop-k.invariant c.loop-k-test.false ∙ ap (λ (e : ℕ). loop (hit_at s.g s.map.now s.c s.r s.n) (8 * s.b) e 0) c.least-k-end.ensures

@@ -1,0 +1,27 @@
+-- `rims::tiles::mark_row` meets its contract. The invariant: the tiles so far are marked whose columns are, and what was marked is. Assumes nothing.
+use mathlib.Core.Path.{sym, ◌∙◌, subst}
+use mathlib.Core.List.{List}
+use mathlib.Core.Logic.{⊎_elim}
+use Prim.Native.Nat.{ℕ, ◌+◌, ◌-◌}
+use native.Mathlib.Omega.{arith}
+use Rattle.rims.specs.Tiles.{Keeps, ColumnsMarked}
+use Rattle.rims.proofs.TileLaws.{columns-none, columns-yes, columns-no, columns-end}
+use Rattle.rims.proofs.tiles.mark_row.Goals as goal
+
+pub loop-x-init : goal.loop-x-init
+loop-x-init c = columns-none _ _ _ _
+
+pub mark-requires : goal.mark-requires
+mark-requires c = (c.loop-x-test.true, omega (arith, c.loop-x.invariant.0.long, c.requires.1))
+
+pub loop-x-preserved : goal.loop-x-preserved
+loop-x-preserved c =    let s = c.args in
+    let l = c.loop-x in
+    let Next : List ℕ → Type 0 = λ t. Keeps s.tiles.now t × ColumnsMarked s.n s.y s.cols.now (l.x + 1) t in
+    ⊎_elim (λ w. subst Next (sym w.5) (columns-yes _ _ _ _ _ _ _ w.2.ensures l.invariant)) (λ w. subst Next (sym w.1) (columns-no _ _ _ _ _ _ (sym c.has_stock.ensures ∙ w.0.left) l.invariant)) c.if-has_stock.branch
+
+pub shape_of-tiles : goal.shape_of-tiles
+shape_of-tiles c = c.loop-x.invariant.0.long
+
+pub returns : goal.returns
+returns c = let i = c.loop-x.invariant in (i.0, columns-end _ _ _ _ _ c.loop-x-test.false i.1)

@@ -1,0 +1,40 @@
+-- `rounds::round::cut_pieces` meets its contract. Assumes nothing.
+use Prim.Native.Nat.{◌-◌}
+use native.Mathlib.Omega.{arith}
+use Rattle.rounds.specs.Next.{swap_remove}
+use Rattle.rounds.specs.Round.{nearest_first, cut_pieces_of}
+use Rattle.rounds.proofs.RoundLaws.{Cutting, nearest-none, words-ask, nearest-taken, next_asks, cutting_stops, cutting_more, cutting_ends}
+use borrow.Author.Rules.{rules}
+use Rattle.rounds.proofs.round.cut_pieces.Goals as goal
+
+pub loop-i-init : goal.loop-i-init
+loop-i-init c = let p = c.requires in nearest-none _ _ _ _ _ _ _ _ _ _ p.standing p.lying p.listed
+
+pub take_nearest-p-requires : goal.take_nearest-p-requires
+take_nearest-p-requires c =  let C = c.loop-i.invariant in let p = words-ask _ _ _ _ _ _ C.standing in record { n_le_most = p.0; n_in_bounds = p.1.0; n_in_bounds_2 = p.1.1; lying = C.lies.lying; le_m = omega (arith, c.loop-i-test.true); }
+
+pub cut_next-c-requires : goal.cut_next-c-requires
+cut_next-c-requires c = 
+    let r = next_asks _ _ _ _ _ _ _ _ _ _ _ _ _ _ _ _ _ _ _ _ _ c.loop-i.invariant c.loop-i-test.true _ _ _ (nearest-taken _ _ _ _ _ _ _ _ _ _ _ _ _ _ _ _ _ _ c.loop-i-test.true c.loop-i.invariant _ _ c.take_nearest-p.ensures.value c.take_nearest-p.ensures.u_after) in
+    record { standing = r.0; traced = r.1.0; listed = r.1.1; }
+
+pub returns-in-Refused : goal.returns-in-Refused
+unfolding cut_pieces_of
+returns-in-Refused c =  let e = c.cut_next-c.ensures in
+    let r = cutting_stops _ _ _ _ _ _ _ _ _ _ _ _ _ _ _ _ _ _ _ _ _ c.loop-i.invariant c.loop-i-test.true _ _ _ (nearest-taken _ _ _ _ _ _ _ _ _ _ _ _ _ _ _ _ _ _ c.loop-i-test.true c.loop-i.invariant _ _ c.take_nearest-p.ensures.value c.take_nearest-p.ensures.u_after) _ _ _ _ _ _ e.result_after e.settled e.behind e.only _ c.in-Refused.is in
+    record { result_after = r.0; cells_kept = r.1.0; b_unchanged = r.1.1.0; u_len_unchanged = r.1.1.1.0; only = r.1.1.1.1.0; lists = r.1.1.1.1.1; }
+
+pub shape_of-w-in-Refused : goal.shape_of-w-in-Refused
+shape_of-w-in-Refused c = (returns (goal.at.shape_of-w-in-Refused c).In-Refused).1.1.1.1.0.long
+
+pub overflow_step-i : goal.overflow_step-i
+overflow_step-i c = let p = c.requires in omega (arith, c.loop-i-test.true, p.lying.few, p.standing.sides.cells)
+
+pub loop-i-preserved : goal.loop-i-preserved
+loop-i-preserved c = let e = c.cut_next-c.ensures in cutting_more _ _ _ _ _ _ _ _ _ _ _ _ _ _ _ _ _ _ _ _ _ c.loop-i.invariant c.loop-i-test.true _ _ _ (nearest-taken _ _ _ _ _ _ _ _ _ _ _ _ _ _ _ _ _ _ c.loop-i-test.true c.loop-i.invariant _ _ c.take_nearest-p.ensures.value c.take_nearest-p.ensures.u_after) _ _ _ _ _ _ e.result_after e.settled e.behind e.only _ _ c.in-After.is
+
+pub returns : goal.returns
+unfolding cut_pieces_of
+returns c = 
+    let r = cutting_ends _ _ _ _ _ _ _ _ _ _ _ _ _ _ _ _ _ _ _ _ _ c.loop-i.invariant c.loop-i-test.false in
+    record { result_after = r.0; cells_kept = r.1.0; b_unchanged = r.1.1.0; u_len_unchanged = r.1.1.1.0; only = r.1.1.1.1.0; lists = r.1.1.1.1.1; }

@@ -1,0 +1,9 @@
+-- `setup::tables::fill` meets its contract. Assumes nothing.
+use native.Mathlib.Omega.{arith}
+use Rattle.setup.proofs.TableLaws.{tables_are}
+use borrow.Author.Rules.{rules}
+use Rattle.setup.proofs.tables.fill.Goals as goal
+
+pub returns : goal.returns
+returns c =    let r = c.fill_rims in
+    tables_are c.args.s c.requires.sides _ _ (omega (arith, c.requires.in_bounds, r.auto.1.0)) c.fill.auto.1.1.0 r.ensures c.fill.ensures.1

@@ -1,0 +1,34 @@
+-- `smoothing::smooth::smooth` meets its contract. Assumes nothing.
+use mathlib.Core.Path.{◌≡◌, refl, ◌∙◌}
+use Prim.Native.Nat.{◌-◌}
+use native.Mathlib.Omega.{arith}
+use lib.ListN.{length}
+use Rattle.loops.proofs.LoopLaws.{Going, going_none, going_more, going_end}
+use Rattle.geom.specs.Points.{points}
+use Rattle.smoothing.specs.Smooth.{averaged}
+use Rattle.smoothing.proofs.SmoothLaws.{smooth_few, smooth_is}
+use Rattle.smoothing.proofs.smooth.smooth.Goals as goal
+
+pub returns-then-n-lt3 : goal.returns-then-n-lt3
+returns-then-n-lt3 c = smooth_few _ _ _ _ c.if-n-lt3.true
+
+pub loop-t-init : goal.loop-t-init
+loop-t-init c = (going_none _ _ _ _, refl)
+
+pub average-requires : goal.average-requires
+average-requires c = record { n_nonzero = omega (arith, c.if-n-lt3.false); n_in_bounds = omega (arith, c.requires.n_in_bounds, c.loop-t.invariant.1); }
+
+pub loop-t-preserved : goal.loop-t-preserved
+loop-t-preserved c =    let l = c.loop-t in
+    let a = c.average.ensures in
+    (going_more _ _ _ _ _ _ _ l.invariant.0 c.loop-t-test.true a.is, a.long ∙ l.invariant.1)
+
+pub resample-requires : goal.resample-requires
+resample-requires c = record { lt_n = omega (arith, c.if-n-lt3.false); n_in_bounds = omega (arith, c.requires.n_in_bounds, c.loop-t.invariant.1); bounds = c.requires.bounds; }
+
+pub shape_of-pts : goal.shape_of-pts
+shape_of-pts c = c.resample.ensures.long ∙ c.loop-t.invariant.1
+
+pub returns : goal.returns
+returns c =    let i = c.loop-t.invariant in
+    smooth_is _ _ _ _ _ _ _ c.if-n-lt3.false (going_end _ _ _ _ _ _ i.0 c.loop-t-test.false) i.1 c.resample.ensures

@@ -1,0 +1,6 @@
+-- `start::ready::setup_of` meets its contract. Assumes nothing.
+use borrow.Author.Rules.{rules}
+use Rattle.start.proofs.ready.setup_of.Goals as goal
+
+pub returns : goal.returns
+returns c = rw (← c.pocket_of-region.ensures) c.new.ensures

@@ -1,0 +1,8 @@
+-- `start::stock::clear_abandoned` meets its contract. Assumes nothing.
+use native.Mathlib.Omega.{arith}
+use borrow.Author.Rules.{rules}
+use Rattle.start.proofs.WriteLaws.{zeroed_is}
+use Rattle.start.proofs.stock.clear_abandoned.Goals as goal
+
+pub returns : goal.returns
+returns c = zeroed_is 3 _ _ _ _ c.abandoned-a.ensures (omega (arith, c.requires.n_in_bounds)) c.fill_bytes.ensures

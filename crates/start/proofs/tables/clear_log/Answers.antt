@@ -1,0 +1,7 @@
+-- `start::tables::clear_log` meets its contract. Assumes nothing.
+use borrow.Author.Rules.{rules}
+use Rattle.start.proofs.StartLaws.{log_is}
+use Rattle.start.proofs.tables.clear_log.Goals as goal
+
+pub returns : goal.returns
+returns c = log_is c.args.g _ _ _ _ c.cells-n.ensures c.log-a.ensures c.requires.nx_in_bounds c.fill_words.ensures

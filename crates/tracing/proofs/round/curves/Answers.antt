@@ -1,0 +1,22 @@
+-- `tracing::round::curves` meets its contract. Assumes nothing.
+use mathlib.Core.Path.{refl, subst}
+use mathlib.Core.List.{List}
+use Rattle.setup.specs.Place.{cells_of}
+use Rattle.pieces.specs.Piece.{Piece}
+use Rattle.workspace.specs.Lies.{Lies}
+use Rattle.tracing.proofs.RoundLaws.{smooth_asks, curves_lie, curves_beside, curves_are}
+use borrow.Author.Rules.{rules}
+use Rattle.tracing.proofs.round.curves.Goals as goal
+
+pub smooth-requires : goal.smooth-requires
+smooth-requires c =     let p = c.requires in
+    let r = smooth_asks c.args.s _ _ _ p.sides p.room _ _ _ _ _ _ c.trace-c.ensures.laying c.trace-c.ensures.beside _ c.cells-n.ensures in
+    record { n_le_most = r.0; n_in_bounds = r.1.0; n_in_bounds_2 = r.1.1.0; lying = r.1.1.1.0; laid = r.1.1.1.1; }
+
+pub returns : goal.returns
+returns c =     let p = c.requires in
+    let e = c.trace-c.ensures in
+    let f = c.smooth.ensures in
+    let N = c.cells-n.ensures in
+    let s = c.args.s in record { lies = subst (λ (l : List Piece). Lies (cells_of s) l c.trace-c.result.pieces c.smooth.new.1.1.1.0 c.smooth.new.1.1.1.1.0) (curves_are s _ _ _ _ N c.level.ensures refl)
+          (curves_lie s _ _ _ p.sides p.room _ _ _ _ _ _ e.laying e.beside _ N _ _ _ f.only f.only_2 f.lies); beside = curves_beside s _ _ _ p.sides p.room _ _ _ _ _ _ e.laying e.beside _ N s.grid.cell _ _ f.only f.only_2; }

@@ -1,0 +1,16 @@
+-- `vectors::of_numbers::order` meets its contract: a number for each case. Assumes nothing.
+use Rattle.std.proofs.Common.{sym, ap, ◌∙◌, rules}
+use Rattle.vectors.specs.OfNumbers.{sign_of}
+use Rattle.vectors.proofs.of_numbers.order.Goals as goal
+
+pub returns-in-Less : goal.returns-in-Less
+unfolding sign_of
+returns-in-Less c = ap sign_of (sym c.in-Less.is ∙ c.total_cmp-o.ensures)
+
+pub returns-in-Equal : goal.returns-in-Equal
+unfolding sign_of
+returns-in-Equal c = ap sign_of (sym c.in-Equal.is ∙ c.total_cmp-o.ensures)
+
+pub returns-in-Greater : goal.returns-in-Greater
+unfolding sign_of
+returns-in-Greater c = ap sign_of (sym c.in-Greater.is ∙ c.total_cmp-o.ensures)
