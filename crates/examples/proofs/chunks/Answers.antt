@@ -5,4 +5,4 @@ use Rattle.examples.proofs.chunks.Goals as goal
 
 pub returns : goal.returns
 unfolding chunks_of
-returns c = rw (c.wrapping_add_u64.ensures, c.wrapping_add_u64-cuts.ensures, c.wrapping_add_u64-ways.ensures)
+returns c = rw (c.wrapping_add_u64.ensures.value, c.wrapping_add_u64-cuts.ensures.value, c.wrapping_add_u64-ways.ensures.value)

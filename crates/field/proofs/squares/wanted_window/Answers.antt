@@ -11,7 +11,7 @@ around-requires c =     let n = c.cells-n.ensures in record { sides = c.requires
 
 pub returns-then-l : goal.returns-then-l
 returns-then-l c =    let p = c.requires in
-    wanted_around _ p.gauged (not-true _ c.if-not-g.true) c.if-l.true _ _ (dirty_part _ _ _ _ _ _ _ c.cells-n.ensures c.dirty-a.ensures c.around.ensures)
+    wanted_around _ p.gauged c.if-not-g.true c.if-l.true _ _ (dirty_part _ _ _ _ _ _ _ c.cells-n.ensures c.dirty-a.ensures c.around.ensures)
 
 pub returns-else-l : goal.returns-else-l
 returns-else-l c = wanted-whole _ _ _

@@ -13,7 +13,7 @@ pub returns-then-not-xs-i : goal.returns-then-not-xs-i
 returns-then-not-xs-i c = never
 
 pub loop-i-preserved : goal.loop-i-preserved
-loop-i-preserved c = climbing_more _ _ c.loop-i.invariant (not-false _ c.if-not-xs-i.false)
+loop-i-preserved c = climbing_more _ _ c.loop-i.invariant c.if-not-xs-i.false
 
 pub returns : goal.returns
 returns c = λ e. climbing_end _ _ c.loop-i.invariant c.loop-i-test.false

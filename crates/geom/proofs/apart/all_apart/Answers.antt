@@ -23,7 +23,7 @@ pub loop-l-init : goal.loop-l-init
 loop-l-init c = let s = c.args in (omega arith, apart_none _ _, start_first s.lens.now s.g)
 
 pub loop_apart-requires : goal.loop_apart-requires
-loop_apart-requires c = record { n_in_bounds = held (goal.at.loop_apart-requires c).After-size-n; rooted = c.requires.rooted; }
+loop_apart-requires c = record { n_in_bounds = held (goal.at.loop_apart-requires c).After-size-n; rooted = c.requires.rooted }
 
 pub returns-then-not-loop_apart : goal.returns-then-not-loop_apart
 returns-then-not-loop_apart c = never
@@ -32,10 +32,10 @@ pub overflow_add-at : goal.overflow_add-at
 overflow_add-at c = omega (arith, held (goal.at.overflow_add-at c).After-size-n)
 
 pub loop-l-preserved : goal.loop-l-preserved
-loop-l-preserved c =    let l = c.loop-l in
+loop-l-preserved c = let l = c.loop-l in
     let s = c.args in (
       omega (arith, c.loop-l-test.true),
-      apart_more _ _ l.l l.invariant.1 (loop-apart _ _ _ _ _ l.l _ _ l.invariant.2 c.size-n.ensures (c.loop_apart.ensures (not-false _ c.if-not-loop_apart.false))),
+      apart_more _ _ l.l l.invariant.1 (loop-apart _ _ _ _ _ l.l _ _ l.invariant.2 c.size-n.ensures (c.loop_apart.ensures c.if-not-loop_apart.false)),
       omega (arith, start-next s.lens.now s.g l.l, l.invariant.2, c.size-n.ensures),
     )
 

@@ -11,7 +11,7 @@ outer : (c : After-point_in_loop) â†’ let s = c.args in c.point_in_loop.result â
 outer c = let s = c.args in inside-first s.vs.now s.lens.now s.g s.p _ _ c.size.ensures c.point_in_loop.ensures
 
 pub point_in_loop-requires : goal.point_in_loop-requires
-point_in_loop-requires c =    first-held c.args.lens.now c.args.g c.args.vs.now c.requires c.size.result c.size.ensures
+point_in_loop-requires c = first-held c.args.lens.now c.args.g c.args.vs.now c.requires c.size.result c.size.ensures
 
 pub returns-then-point_in_loop : goal.returns-then-point_in_loop
 returns-then-point_in_loop c = contains_in _ _ _ _ _ (outer (goal.at.returns-then-point_in_loop c).After-point_in_loop) c.if-point_in_loop.true _ c.in_island.ensures

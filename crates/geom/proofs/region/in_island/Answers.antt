@@ -23,10 +23,10 @@ answer c =
     inside_is _ _ _ _ l.l _ _ _ l.invariant.1 c.size-n.ensures c.point_in_loop.ensures
 
 pub overflow_add-at : goal.overflow_add-at
-overflow_add-at c =    omega (arith, first-held c.args.lens.now c.args.g c.args.vs.now c.requires c.size.result c.size.ensures)
+overflow_add-at c = omega (arith, first-held c.args.lens.now c.args.g c.args.vs.now c.requires c.size.result c.size.ensures)
 
 pub loop-l-init : goal.loop-l-init
-loop-l-init c =    let s = c.args in
+loop-l-init c = let s = c.args in
     (going_none _ _ _ _, start_second s.lens.now s.g c.size.result c.size.ensures)
 
 pub point_in_loop-requires : goal.point_in_loop-requires
@@ -34,14 +34,14 @@ point_in_loop-requires c = held (goal.at.point_in_loop-requires c).After-size-n
 
 pub returns-then-point_in_loop : goal.returns-then-point_in_loop
 unfolding in_island
-returns-then-point_in_loop c =    let l = c.loop-l in
+returns-then-point_in_loop c = let l = c.loop-l in
     any_out _ _ _ l.l l.invariant.0 c.loop-l-test.true (sym (answer (goal.at.returns-then-point_in_loop c).After-point_in_loop) ∙ c.if-point_in_loop.true)
 
 pub overflow_add-at-in-loop-l : goal.overflow_add-at-in-loop-l
 overflow_add-at-in-loop-l c = omega (arith, held (goal.at.overflow_add-at-in-loop-l c).After-size-n)
 
 pub loop-l-preserved : goal.loop-l-preserved
-loop-l-preserved c =    let l = c.loop-l in
+loop-l-preserved c = let l = c.loop-l in
     let s = c.args in
     (any-on _ _ _ l.l l.invariant.0 c.loop-l-test.true (sym (answer (goal.at.loop-l-preserved c).After-point_in_loop) ∙ c.if-point_in_loop.false), rw (l.invariant.1, c.size-n.ensures) (start-next s.lens.now s.g l.l))
 

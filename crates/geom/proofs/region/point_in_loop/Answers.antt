@@ -16,7 +16,7 @@ pub loop-i-init : goal.loop-i-init
 loop-i-init c = (going_none _ _ _ _, c.vertex-b.ensures ∙ before-first _ _ _ c.if-n-eq0.false)
 
 pub loop-i-preserved : goal.loop-i-preserved
-loop-i-preserved c =    let l = c.loop-i in
+loop-i-preserved c = let l = c.loop-i in
     (going_more _ _ _ _ _ _ _ l.invariant.0 c.loop-i-test.true (c.turn-inside.ensures ∙ rw (c.vertex-a.ensures, l.invariant.1)), c.vertex-a.ensures ∙ before-next _ _ _ _)
 
 pub returns : goal.returns

@@ -28,18 +28,18 @@ pub loop-l-init : goal.loop-l-init
 loop-l-init c = let s = c.args in (going_none _ _ _ _, start_first s.lens.now s.g)
 
 pub loop_within-requires : goal.loop_within-requires
-loop_within-requires c = record { n_in_bounds = held (goal.at.loop_within-requires c).After-size-n; bounds = c.requires.bounds; }
+loop_within-requires c = record { n_in_bounds = held (goal.at.loop_within-requires c).After-size-n; bounds = c.requires.bounds }
 
 pub returns-then-loop_within : goal.returns-then-loop_within
 unfolding any_within
-returns-then-loop_within c =    let l = c.loop-l in
+returns-then-loop_within c = let l = c.loop-l in
     any_out _ _ _ l.l l.invariant.0 c.loop-l-test.true (sym (answer (goal.at.returns-then-loop_within c).After-loop_within) ∙ c.if-loop_within.true)
 
 pub overflow_add-at : goal.overflow_add-at
 overflow_add-at c = omega (arith, held (goal.at.overflow_add-at c).After-size-n)
 
 pub loop-l-preserved : goal.loop-l-preserved
-loop-l-preserved c =    let l = c.loop-l in
+loop-l-preserved c = let l = c.loop-l in
     let s = c.args in
     (any-on _ _ _ l.l l.invariant.0 c.loop-l-test.true (sym (answer (goal.at.loop-l-preserved c).After-loop_within) ∙ c.if-loop_within.false), omega (arith, start-next s.lens.now s.g l.l, l.invariant.1, c.size-n.ensures))
 

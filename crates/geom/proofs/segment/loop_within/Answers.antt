@@ -12,7 +12,7 @@ pub loop-i-init : goal.loop-i-init
 loop-i-init c = going_none _ _ _ _
 
 pub edge_within-requires : goal.edge_within-requires
-edge_within-requires c = record { n_in_bounds = omega arith; bounds = c.requires.bounds; }
+edge_within-requires c = record { n_in_bounds = omega arith; bounds = c.requires.bounds }
 
 pub returns-then-edge_within : goal.returns-then-edge_within
 unfolding loop_within

@@ -20,7 +20,7 @@ pub shape_of-nodes-then-not-before : goal.shape_of-nodes-then-not-before
 shape_of-nodes-then-not-before c = c.loop-k.invariant.0.nodes-long
 
 pub returns-then-not-before : goal.returns-then-not-before
-returns-then-not-before c = let l = c.loop-k in record { kept = l.invariant.0; rising = l.invariant.1; stops = λ h. rise_stop _ _ _ _ _ _ _ l.invariant.0 l.invariant.1 _ c.read-f.ensures _ c.before-in-loop-k.ensures (not-true _ c.if-not-before.true) }
+returns-then-not-before c = let l = c.loop-k in record { kept = l.invariant.0; rising = l.invariant.1; stops = λ h. rise_stop _ _ _ _ _ _ _ l.invariant.0 l.invariant.1 _ c.read-f.ensures _ c.before-in-loop-k.ensures c.if-not-before.true }
 
 pub write-requires : goal.write-requires
 write-requires c = let i = c.loop-k.invariant in let p = c.requires.lent in record { in_ests = omega (arith, i.0.ests_long, i.1.high, p.in_ests); in_nodes = omega (arith, i.0.nodes-long, i.1.high, p.in_nodes) }
@@ -29,7 +29,7 @@ pub loop-k-smaller : goal.loop-k-smaller
 loop-k-smaller c = omega (arith, c.loop-k-test.true)
 
 pub loop-k-preserved : goal.loop-k-preserved
-loop-k-preserved c = let l = c.loop-k in let p = c.requires.lent in rise-on _ _ _ _ _ _ _ l.invariant.0 l.invariant.1 _ c.read-f.ensures _ c.before-in-loop-k.ensures (not-false _ c.if-not-before.false) c.loop-k-test.true (omega (arith, l.invariant.0.ests_long, l.invariant.1.high, p.in_ests)) (omega (arith, l.invariant.0.nodes-long, l.invariant.1.high, p.in_nodes)) _ _ c.write.ensures
+loop-k-preserved c = let l = c.loop-k in let p = c.requires.lent in rise-on _ _ _ _ _ _ _ l.invariant.0 l.invariant.1 _ c.read-f.ensures _ c.before-in-loop-k.ensures c.if-not-before.false c.loop-k-test.true (omega (arith, l.invariant.0.ests_long, l.invariant.1.high, p.in_ests)) (omega (arith, l.invariant.0.nodes-long, l.invariant.1.high, p.in_nodes)) _ _ c.write.ensures
 
 pub shape_of-ests : goal.shape_of-ests
 shape_of-ests c = c.loop-k.invariant.0.ests_long

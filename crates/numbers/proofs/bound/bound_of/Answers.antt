@@ -8,21 +8,21 @@ pub float_to_bits-k : goal.float_to_bits-k
 float_to_bits-k c = subst (λ (b : Bool). T (not b)) (sym (lt_numbers _ _ c.if-square.true).1) tt
 
 pub returns-then-k-lt4 : goal.returns-then-k-lt4
-returns-then-k-lt4 c = 
+returns-then-k-lt4 c =
     let r = answers_least _ _ _ refl c.if-square.true c.if-k-lt4.true c.search.ensures in
-    record { is = r.0; decides = r.1; }
+    record { is = r.0; decides = r.1 }
 
 pub returns-then-k-lt9214364837600034816 : goal.returns-then-k-lt9214364837600034816
-returns-then-k-lt9214364837600034816 c = 
+returns-then-k-lt9214364837600034816 c =
     let r = answers_near _ _ _ refl c.if-square.true c.if-k-lt4.false c.if-k-lt9214364837600034816.true c.search-then-k-lt9214364837600034816.ensures in
-    record { is = r.0; decides = r.1; }
+    record { is = r.0; decides = r.1 }
 
 pub returns-else-k-lt9214364837600034816 : goal.returns-else-k-lt9214364837600034816
-returns-else-k-lt9214364837600034816 c = 
+returns-else-k-lt9214364837600034816 c =
     let r = answers_huge _ _ _ refl c.if-square.true c.if-k-lt4.false c.if-k-lt9214364837600034816.false refl in
-    record { is = r.0; decides = r.1; }
+    record { is = r.0; decides = r.1 }
 
 pub returns-else-square : goal.returns-else-square
-returns-else-square c = 
+returns-else-square c =
     let r = answers_none _ _ c.if-square.false refl in
-    record { is = r.0; decides = r.1; }
+    record { is = r.0; decides = r.1 }

@@ -15,13 +15,13 @@ pub float_from_bits-result : goal.float_from_bits-result
 float_from_bits-result c = no_nan_bits _ (omega arith)
 
 pub returns-then-separates : goal.returns-then-separates
-returns-then-separates c =    let s = c.args in
+returns-then-separates c = let s = c.args in
     let l = c.loop-i in
     found_at s.r s.k (omega arith) Untold l.i l.invariant (omega arith) (sym c.separates.ensures ∙ c.if-separates.true)
 
 pub loop-i-preserved : goal.loop-i-preserved
 unfolding look_at
-loop-i-preserved c =    let l = c.loop-i in
+loop-i-preserved c = let l = c.loop-i in
     going_on _ 0 8 (on Untold) Untold Untold l.i l.invariant (omega arith) (rw (sym c.separates.ensures ∙ c.if-separates.false))
 
 pub returns : goal.returns

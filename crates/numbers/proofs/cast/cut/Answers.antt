@@ -11,10 +11,10 @@ pub parts-p-requires : goal.parts-p-requires
 parts-p-requires c = (in_range_lem (goal.at.parts-p-requires c).Start).is_pos
 
 pub overflow_sub-result : goal.overflow_sub-result
-overflow_sub-result c =    cut_high c.args.x c.parts-p.result.m c.parts-p.result.e c.parts-p.ensures (in_range_lem (goal.at.overflow_sub-result c).Start)
+overflow_sub-result c = cut_high c.args.x c.parts-p.result.m c.parts-p.result.e c.parts-p.ensures (in_range_lem (goal.at.overflow_sub-result c).Start)
 
 pub overflow_shr-result : goal.overflow_shr-result
-overflow_shr-result c =    omega (arith, cut_low c.args.x c.parts-p.result.m c.parts-p.result.e c.parts-p.ensures (in_range_lem (goal.at.overflow_shr-result c).Start))
+overflow_shr-result c = omega (arith, cut_low c.args.x c.parts-p.result.m c.parts-p.result.e c.parts-p.ensures (in_range_lem (goal.at.overflow_shr-result c).Start))
 
 pub returns : goal.returns
-returns c =    cut-is c.args.x c.parts-p.result.m c.parts-p.result.e c.parts-p.ensures (in_range_lem (goal.at.returns c).Start)
+returns c = cut-is c.args.x c.parts-p.result.m c.parts-p.result.e c.parts-p.ensures (in_range_lem (goal.at.returns c).Start)

@@ -7,7 +7,7 @@ use Rattle.numbers.proofs.cast.sat_u32.Goals as goal
 
 pub cut-requires : goal.cut-requires
 unfolding of_bits
-cut-requires c = record { x_value = c.if-x.true; pos_value = c.if-x-2.true; }
+cut-requires c = record { x_value = c.if-x.true; pos_value = c.if-x-2.true }
 
 pub overflow_cast-result : goal.overflow_cast-result
 overflow_cast-result c = omega (arith, c.cut.ensures, to_unsigned-lt 32 c.args.x)

@@ -34,5 +34,5 @@ returns-then-q-eq3 c = c.sin_series-then-q-eq3.ensures ∙ at 3 (goal.at.returns
 
 pub returns-else-q-eq3 : goal.returns-else-q-eq3
 unfolding cos_at
-returns-else-q-eq3 c =    let e : c.quadrant-q.result ≡ 4 = omega (arith, c.quadrant-q.ensures.1, c.if-q-eq0.false, c.if-q-eq1.false, c.if-q-eq2.false, c.if-q-eq3.false) in
+returns-else-q-eq3 c = let e : c.quadrant-q.result ≡ 4 = omega (arith, c.quadrant-q.ensures.1, c.if-q-eq0.false, c.if-q-eq1.false, c.if-q-eq2.false, c.if-q-eq3.false) in
     c.cos_series-else-q-eq3.ensures ∙ at 4 (goal.at.returns-else-q-eq3 c).After-row_known-1 e

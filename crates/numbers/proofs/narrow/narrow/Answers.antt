@@ -19,15 +19,15 @@ narrow_high-requires-then-x-2 c = c.if-x-2.true
 
 pub narrow_low-requires : goal.narrow_low-requires
 unfolding of_bits
-narrow_low-requires c = record { x_value = c.if-x-3.true; x_value_2 = c.if-x.false; }
+narrow_low-requires c = record { x_value = c.if-x-3.true; x_value_2 = c.if-x.false }
 
 pub narrow_low-requires-then-x-4 : goal.narrow_low-requires-then-x-4
 unfolding of_bits
-narrow_low-requires-then-x-4 c = record { x_value = turned c.args.x c.if-x-4.true; x_value_2 = c.if-x-2.false; }
+narrow_low-requires-then-x-4 c = record { x_value = turned c.args.x c.if-x-4.true; x_value_2 = c.if-x-2.false }
 
 pub float_to_float-result : goal.float_to_float-result
 unfolding of_bits
-float_to_float-result c =    (narrow_zero c.args.x (held (goal.at.float_to_float-result c).Start) c.if-x-3.false c.if-x-4.false c.if-x-5.true).1
+float_to_float-result c = (narrow_zero c.args.x (held (goal.at.float_to_float-result c).Start) c.if-x-3.false c.if-x-4.false c.if-x-5.true).1
 
 pub returns-then-x-2 : goal.returns-then-x-2
 returns-then-x-2 c = narrow_neg c.args.x c.narrow_high-then-x-2.result c.narrow_high-then-x-2.ensures
@@ -37,7 +37,7 @@ returns-then-x-4 c = narrow_neg c.args.x c.narrow_low-then-x-4.result c.narrow_l
 
 pub returns-then-x-5 : goal.returns-then-x-5
 unfolding of_bits
-returns-then-x-5 c =    (narrow_zero c.args.x (held (goal.at.returns-then-x-5 c).Start) c.if-x-3.false c.if-x-4.false c.if-x-5.true).0
+returns-then-x-5 c = (narrow_zero c.args.x (held (goal.at.returns-then-x-5 c).Start) c.if-x-3.false c.if-x-4.false c.if-x-5.true).0
 
 pub returns-else-x-5 : goal.returns-else-x-5
 unfolding of_bits div

@@ -8,7 +8,7 @@ use Rattle.numbers.proofs.PartLaws.{digits_are}
 use Rattle.numbers.proofs.ShiftLaws.{carried}
 use Rattle.numbers.proofs.NarrowLaws.{no_nan_bits, no_nan_high, High, high, High_shifted, high_e, narrow_bits, narrow_over}
 use Rattle.numbers.proofs.narrow.narrow_high.Goals as goal
-use Rattle.numbers.proofs.narrow.narrow_high.Goals.{After-moved-p, After-nearest_shift-b, Joined-b-lt2139095040, Start}
+use Rattle.numbers.proofs.narrow.narrow_high.Goals.{then-b-lt2139095040, else-b-lt2139095040, After-moved-p, After-nearest_shift-b, Joined-b-lt2139095040, Start}
 
 held : (c : Start) → T (fits binary64 c.args.x)
 held c = subst T (sym c.well_formed.0.1) tt
@@ -29,18 +29,18 @@ is : (c : Joined-b-lt2139095040) → (c.if-b-lt2139095040.b ≤ 0x7f80_0000) × 
 unfolding of_bits
 is c =
     let x = c.args.x in
-    ⊎_elim
-    (λ w. (
-      subst (λ (z : ℕ). z ≤ 0x7f80_0000) (sym w.1) (le_of_lt w.0.taken),
-      ap (of_bits binary32) (w.1 ∙ pattern c.before)
-          ∙ narrow_bits x (held c.before.before.before.before.before) c.requires c.moved-p.result.m c.moved-p.result.e (shifted c.before.before.before.before) (subst (λ (z : ℕ). z < 0x7f80_0000) (pattern c.before) w.0.taken),
-    ))
-    (λ w. (
-      le_of_eq w.1,
-      ap (of_bits binary32) w.1
-          ∙ narrow_over x (held c.before.before.before.before.before) c.requires c.moved-p.result.m c.moved-p.result.e (shifted c.before.before.before.before) (subst (λ (z : ℕ). 0x7f80_0000 ≤ z) (pattern c.before) w.0.left),
-    ))
-    c.if-b-lt2139095040.branch
+    elim c.if-b-lt2139095040.branch [
+      | then-b-lt2139095040 w ↦ (
+        subst (λ (z : ℕ). z ≤ 0x7f80_0000) (sym w.b-is) (le_of_lt w.if-b-lt2139095040.true),
+        ap (of_bits binary32) (w.b-is ∙ pattern c.before)
+            ∙ narrow_bits x (held c.before.before.before.before.before) c.requires c.moved-p.result.m c.moved-p.result.e (shifted c.before.before.before.before) (subst (λ (z : ℕ). z < 0x7f80_0000) (pattern c.before) w.if-b-lt2139095040.true),
+      )
+      | else-b-lt2139095040 w ↦ (
+        le_of_eq w.b-is,
+        ap (of_bits binary32) w.b-is
+            ∙ narrow_over x (held c.before.before.before.before.before) c.requires c.moved-p.result.m c.moved-p.result.e (shifted c.before.before.before.before) (subst (λ (z : ℕ). 0x7f80_0000 ≤ z) (pattern c.before) w.if-b-lt2139095040.false),
+      )
+    ]
 
 pub float_to_bits-bits : goal.float_to_bits-bits
 float_to_bits-bits c = no_nan_high c.args.x c.requires
@@ -49,9 +49,9 @@ pub overflow_sub-bits : goal.overflow_sub-bits
 overflow_sub-bits c = omega (arith, (field (goal.at.overflow_sub-bits c).Start).lo)
 
 pub moved-p-requires : goal.moved-p-requires
-moved-p-requires c =     let b = to_bits binary64 c.args.x in
+moved-p-requires c = let b = to_bits binary64 c.args.x in
     let d = digits_are b in
-    let l : b % 2 ^ 52 < 2 ^ 52 = mod-lt b (pow_pos 52) in record { q_nonzero = subst (λ (k : ℕ). 0 < k) (sym d) (omega arith); q_bound = subst (λ (k : ℕ). k < 2 ^ 53) (sym d) (omega arith); j_bound = omega (arith, (field (goal.at.moved-p-requires c).Start).hi); }
+    let l : b % 2 ^ 52 < 2 ^ 52 = mod-lt b (pow_pos 52) in record { q_nonzero = subst (λ (k : ℕ). 0 < k) (sym d) (omega arith); q_bound = subst (λ (k : ℕ). k < 2 ^ 53) (sym d) (omega arith); j_bound = omega (arith, (field (goal.at.moved-p-requires c).Start).hi) }
 
 pub overflow_sub-p : goal.overflow_sub-p
 overflow_sub-p c = high_e c.args.x c.moved-p.result.m c.moved-p.result.e (field (goal.at.overflow_sub-p c).Start) (shifted (goal.at.overflow_sub-p c).After-moved-p)
@@ -63,7 +63,7 @@ pub overflow_add-p : goal.overflow_add-p
 overflow_add-p c = omega (arith, c.moved-p.ensures.few, c.moved-p.ensures.hi, (field (goal.at.overflow_add-p c).Start).hi)
 
 pub nearest_shift-b-requires : goal.nearest_shift-b-requires
-nearest_shift-b-requires c = record { m_bound = omega (arith, c.moved-p.ensures.few, c.moved-p.ensures.hi, (field (goal.at.nearest_shift-b-requires c).Start).hi); d_nonzero = omega arith; d_bound = omega arith; }
+nearest_shift-b-requires c = record { m_bound = omega (arith, c.moved-p.ensures.few, c.moved-p.ensures.hi, (field (goal.at.nearest_shift-b-requires c).Start).hi); d_nonzero = omega arith; d_bound = omega arith }
 
 pub overflow_cast-result : goal.overflow_cast-result
 overflow_cast-result c = omega (arith, (is (goal.at.overflow_cast-result c).Joined-b-lt2139095040).0)

@@ -23,7 +23,7 @@ pub overflow_sub-e : goal.overflow_sub-e
 overflow_sub-e c = omega (arith, few (goal.at.overflow_sub-e c).After-parts-p)
 
 pub nearest_shift-requires : goal.nearest_shift-requires
-nearest_shift-requires c =  let f = few (goal.at.nearest_shift-requires c).After-parts-p in record { m_bound = omega (arith, c.parts-p.ensures.hi); d_nonzero = omega arith; d_bound = omega arith; }
+nearest_shift-requires c = let f = few (goal.at.nearest_shift-requires c).After-parts-p in record { m_bound = omega (arith, c.parts-p.ensures.hi); d_nonzero = omega arith; d_bound = omega arith }
 
 pub overflow_cast-result : goal.overflow_cast-result
 overflow_cast-result c = omega (arith, small (goal.at.overflow_cast-result c).After-nearest_shift)
@@ -32,9 +32,9 @@ pub float_from_bits-result : goal.float_from_bits-result
 float_from_bits-result c = no_nan_bits _ (le_trans (small (goal.at.float_from_bits-result c).After-nearest_shift) (lit≤ tt))
 
 pub returns-then-e-lt924 : goal.returns-then-e-lt924
-returns-then-e-lt924 c =    let x = c.args.x in
+returns-then-e-lt924 c = let x = c.args.x in
     narrow_up x _ (is_pos (goal.at.returns-then-e-lt924 c).Start) (zero_bits x c.parts-p.result.m c.parts-p.result.e c.parts-p.ensures c.if-e-lt924.true)
 
 pub returns-else-e-lt924 : goal.returns-else-e-lt924
-returns-else-e-lt924 c =    let x = c.args.x in
+returns-else-e-lt924 c = let x = c.args.x in
     narrow_up x _ (is_pos (goal.at.returns-else-e-lt924 c).Start) (ap (of_bits binary32) c.nearest_shift.ensures ∙ low_bits x c.parts-p.result.m c.parts-p.result.e c.parts-p.ensures (few (goal.at.returns-else-e-lt924 c).After-parts-p))

@@ -42,7 +42,7 @@ pub overflow_add-result-2 : goal.overflow_add-result-2
 overflow_add-result-2 c = omega (arith, few c.args.d c.requires.d_nonzero c.requires.d_bound)
 
 pub returns : goal.returns
-returns c =    let m = c.args.m in
+returns c = let m = c.args.m in
     let d = c.args.d in
     let h = shifted d in
     let w : 2 ^ d ≡ h + h = whole d c.requires.d_nonzero c.requires.d_bound in

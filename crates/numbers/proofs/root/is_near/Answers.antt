@@ -37,5 +37,5 @@ overflow_add-s-2 c = omega (arith, lower_few c.args.q c.if-q-gt9007199254740992.
 pub returns : goal.returns
 returns c = λ h.
     let q = c.args.q in
-    near_halves q c.if-q-gt9007199254740992.false _ _ _ _ c.wrapping_sub_u64-u.ensures c.if-u-ge1073741824.false c.wrapping_sub_u64-d.ensures c.if-d-ge536870912.false
-    c.wrapping_sub_u64.ensures (ltb-true c.wrapping_sub_u64.result (2 * q) h)
+    near_halves q c.if-q-gt9007199254740992.false _ _ _ _ c.wrapping_sub_u64-u.ensures.value c.if-u-ge1073741824.false c.wrapping_sub_u64-d.ensures.value c.if-d-ge536870912.false
+    c.wrapping_sub_u64.ensures.value (ltb-true c.wrapping_sub_u64.result (2 * q) h)

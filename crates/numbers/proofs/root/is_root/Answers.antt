@@ -24,7 +24,7 @@ is_near-requires c = omega (arith, at_most c.args.m c.args.e, c.requires.hi)
 
 pub returns-then-r : goal.returns-then-r
 returns-then-r c = λ h.
-    root_by_digits _ _ _ _ (subst T (sym c.well_formed.0.1) tt) c.requires c.wrapping_sub_u64-q.ensures (c.is_near.ensures h)
+    root_by_digits _ _ _ _ (subst T (sym c.well_formed.0.1) tt) c.requires c.wrapping_sub_u64-q.ensures.value (c.is_near.ensures h)
 
 pub returns : goal.returns
 returns c = λ h. never h

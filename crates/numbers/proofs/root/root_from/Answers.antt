@@ -10,7 +10,7 @@ pub overflow_add-m : goal.overflow_add-m
 overflow_add-m c = omega (arith, at_most c.args.m c.args.e)
 
 pub near_root-q-requires : goal.near_root-q-requires
-near_root-q-requires c = record { hi_bound = omega (arith, at_most c.args.m c.args.e, c.requires.hi); bits_bound = omega (arith, c.requires.hi); }
+near_root-q-requires c = record { hi_bound = omega (arith, at_most c.args.m c.args.e, c.requires.hi); bits_bound = omega (arith, c.requires.hi) }
 
 pub overflow_add-result-2 : goal.overflow_add-result-2
 overflow_add-result-2 c = omega (arith, root-few c.args.m c.args.e c.near_root-q.result c.requires c.near_root-q.ensures)

@@ -3,7 +3,7 @@ use Rattle.std.proofs.Common.{rules}
 use Rattle.numbers.proofs.root.root_up.Goals as goal
 
 pub returns-then-is_root : goal.returns-then-is_root
-returns-then-is_root c =    (c.is_root.ensures c.if-is_root.true).is c.args.x c.requires c.parts-p.ensures
+returns-then-is_root c = (c.is_root.ensures c.if-is_root.true).is c.args.x c.requires c.parts-p.ensures
 
 pub returns : goal.returns
-returns c =    c.root_from.ensures.is c.args.x c.requires c.parts-p.ensures
+returns c = c.root_from.ensures.is c.args.x c.requires c.parts-p.ensures

@@ -33,18 +33,18 @@ pub square_le-requires : goal.square_le-requires
 square_le-requires c = omega (arith, bit (goal.at.square_le-requires c).In-loop-i, t-small (goal.at.square_le-requires c).In-loop-i)
 
 pub loop-i-preserved-then-square_le : goal.loop-i-preserved-then-square_le
-loop-i-preserved-then-square_le c =    let t = s (goal.at.loop-i-preserved-then-square_le c).In-loop-i + 1 * 2 ^ (i (goal.at.loop-i-preserved-then-square_le c).In-loop-i - 1) % 2 ^ 64 in
+loop-i-preserved-then-square_le c = let t = s (goal.at.loop-i-preserved-then-square_le c).In-loop-i + 1 * 2 ^ (i (goal.at.loop-i-preserved-then-square_le c).In-loop-i - 1) % 2 ^ 64 in
     let h : t * t ≤ n (goal.at.loop-i-preserved-then-square_le c).In-loop-i = leb-true (t * t) (n (goal.at.loop-i-preserved-then-square_le c).In-loop-i) (sym c.square_le.ensures ∙ c.if-square_le.true) in
     subst (λ (z : ℕ). Bracket (n (goal.at.loop-i-preserved-then-square_le c).In-loop-i) (s (goal.at.loop-i-preserved-then-square_le c).In-loop-i + z) (i (goal.at.loop-i-preserved-then-square_le c).In-loop-i - 1)) (sym (bit (goal.at.loop-i-preserved-then-square_le c).In-loop-i))
     (taken (n (goal.at.loop-i-preserved-then-square_le c).In-loop-i) (s (goal.at.loop-i-preserved-then-square_le c).In-loop-i) (i (goal.at.loop-i-preserved-then-square_le c).In-loop-i) c.loop-i-test.true c.loop-i.invariant (subst (λ (z : ℕ). (s (goal.at.loop-i-preserved-then-square_le c).In-loop-i + z) * (s (goal.at.loop-i-preserved-then-square_le c).In-loop-i + z) ≤ n (goal.at.loop-i-preserved-then-square_le c).In-loop-i) (bit (goal.at.loop-i-preserved-then-square_le c).In-loop-i) h))
 
 pub loop-i-preserved : goal.loop-i-preserved
-loop-i-preserved c =    let t = s (goal.at.loop-i-preserved c).In-loop-i + 1 * 2 ^ (i (goal.at.loop-i-preserved c).In-loop-i - 1) % 2 ^ 64 in
+loop-i-preserved c = let t = s (goal.at.loop-i-preserved c).In-loop-i + 1 * 2 ^ (i (goal.at.loop-i-preserved c).In-loop-i - 1) % 2 ^ 64 in
     let h : n (goal.at.loop-i-preserved c).In-loop-i < t * t = leb-false (t * t) (n (goal.at.loop-i-preserved c).In-loop-i) (sym c.square_le.ensures ∙ c.if-square_le.false) in
     left (n (goal.at.loop-i-preserved c).In-loop-i) (s (goal.at.loop-i-preserved c).In-loop-i) (i (goal.at.loop-i-preserved c).In-loop-i) c.loop-i-test.true c.loop-i.invariant (subst (λ (z : ℕ). n (goal.at.loop-i-preserved c).In-loop-i < (s (goal.at.loop-i-preserved c).In-loop-i + z) * (s (goal.at.loop-i-preserved c).In-loop-i + z)) (bit (goal.at.loop-i-preserved c).In-loop-i) h)
 
 pub returns : goal.returns
-returns c =    let v = c.loop-i.invariant in
+returns c = let v = c.loop-i.invariant in
     let z : c.loop-i.i ≡ 0 = omega arith in
     let a : 2 ^ c.loop-i.i ≡ 1 = ap (λ (k : ℕ). 2 ^ k) z in
     (omega (arith, v.1), v.2, subst (λ (k : ℕ). c.args.hi * 2 ^ 54 < (c.loop-i.s + k) * (c.loop-i.s + k)) a v.3)

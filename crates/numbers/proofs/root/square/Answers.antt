@@ -44,4 +44,4 @@ pub overflow_add-result-2 : goal.overflow_add-result-2
 overflow_add-result-2 c = omega (arith, aa c.args.s c.requires, ab c.args.s c.requires, bb c.args.s c.requires)
 
 pub returns : goal.returns
-returns c =    (sym (halves c.args.s), mod-lt _ (pow_pos 54), omega (arith, aa c.args.s c.requires, ab c.args.s c.requires, bb c.args.s c.requires))
+returns c = (sym (halves c.args.s), mod-lt _ (pow_pos 54), omega (arith, aa c.args.s c.requires, ab c.args.s c.requires, bb c.args.s c.requires))

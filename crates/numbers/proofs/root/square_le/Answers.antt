@@ -13,7 +13,7 @@ zero-le n = by_cases (eqb n 0) (λ e. e ∙ sym (le-leb n 0 (let z = eqb-true n 
     above h = by_cases (leb n 0) (λ b. absurd (h (let z = leb-true n 0 b in omega arith))) (λ b. leb-false n 0 b)
 
 pub returns : goal.returns
-returns c =    let w = c.square-w in
+returns c = let w = c.square-w in
     let s = c.args.s in
     let hi = c.args.hi in
     let z : hi * 2 ^ 54 + 0 ≡ hi * 2 ^ 54 = omega arith in

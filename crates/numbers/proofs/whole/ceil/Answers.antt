@@ -11,27 +11,27 @@ held c = subst T (sym c.well_formed.0.1) tt
 
 pub rise-requires : goal.rise-requires
 unfolding of_bits
-rise-requires c = record { x_value = c.if-x.true; pos_value = c.if-x-2.true; }
+rise-requires c = record { x_value = c.if-x.true; pos_value = c.if-x-2.true }
 
 pub int_to_float-result : goal.int_to_float-result
 unfolding of_bits in_float
-int_to_float-result c =    let t = c.rise in
+int_to_float-result c = let t = c.rise in
     le→leb t.result (2 ^ 53) (subst (λ (z : ℕ). z ≤ 2 ^ 53) (sym t.ensures) (above_le c.args.x c.if-x.true c.if-x-2.true))
 
 pub truncating_f64_to_u64-requires : goal.truncating_f64_to_u64-requires
 unfolding of_bits
-truncating_f64_to_u64-requires c =     let x = c.args.x in
-    let z = small (neg x) (turned x c.if-x-3.true) c.if-x-4.true in record { lower_bound = z.over; upper_bound = z.under; }
+truncating_f64_to_u64-requires c = let x = c.args.x in
+    let z = small (neg x) (turned x c.if-x-3.true) c.if-x-4.true in record { lower_bound = z.over; upper_bound = z.under }
 
 pub int_to_float-result-then-x-4 : goal.int_to_float-result-then-x-4
 unfolding of_bits in_float
-int_to_float-result-then-x-4 c =    let t = c.truncating_f64_to_u64 in
+int_to_float-result-then-x-4 c = let t = c.truncating_f64_to_u64 in
     let x = c.args.x in
     le→leb t.result (2 ^ 53) (le_of_lt (whole_lt (neg x) (turned x c.if-x-3.true) c.if-x-4.true t.result t.ensures))
 
 pub returns-then-x-2 : goal.returns-then-x-2
 unfolding of_bits
-returns-then-x-2 c =    let t = c.rise in
+returns-then-x-2 c = let t = c.rise in
     ceil_over c.args.x c.if-x.true t.result t.ensures c.if-x-2.true
 
 pub returns-else-x-2 : goal.returns-else-x-2
@@ -40,7 +40,7 @@ returns-else-x-2 c = (large_over c.args.x (held (goal.at.returns-else-x-2 c).Sta
 
 pub returns-then-x-4 : goal.returns-then-x-4
 unfolding of_bits
-returns-then-x-4 c =    let t = c.truncating_f64_to_u64 in
+returns-then-x-4 c = let t = c.truncating_f64_to_u64 in
     ceil_under c.args.x c.if-x-3.true c.if-x-4.true t.result t.ensures
 
 pub returns-else-x-4 : goal.returns-else-x-4

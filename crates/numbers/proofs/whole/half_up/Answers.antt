@@ -14,13 +14,13 @@ pub overflow_mul-result : goal.overflow_mul-result
 overflow_mul-result c = omega (arith, c.parts-p.ensures.hi)
 
 pub overflow_sub-result : goal.overflow_sub-result
-overflow_sub-result c =    low_e c.args.x c.parts-p.result.m c.parts-p.result.e (under (goal.at.overflow_sub-result c).Start) c.parts-p.ensures
+overflow_sub-result c = low_e c.args.x c.parts-p.result.m c.parts-p.result.e (under (goal.at.overflow_sub-result c).Start) c.parts-p.ensures
 
 pub overflow_add-result : goal.overflow_add-result
-overflow_add-result c =    omega (arith, c.parts-p.ensures.hi, div-le_self (2 * c.parts-p.result.m) (2 ^ (1126 - c.parts-p.result.e)))
+overflow_add-result c = omega (arith, c.parts-p.ensures.hi, div-le_self (2 * c.parts-p.result.m) (2 ^ (1126 - c.parts-p.result.e)))
 
 pub returns-then-e-lt1073 : goal.returns-then-e-lt1073
-returns-then-e-lt1073 c =    nothing c.args.x c.parts-p.result.m c.parts-p.result.e (under (goal.at.returns-then-e-lt1073 c).Start) c.parts-p.ensures c.if-e-lt1073.true
+returns-then-e-lt1073 c = nothing c.args.x c.parts-p.result.m c.parts-p.result.e (under (goal.at.returns-then-e-lt1073 c).Start) c.parts-p.ensures c.if-e-lt1073.true
 
 pub returns-else-e-lt1073 : goal.returns-else-e-lt1073
-returns-else-e-lt1073 c =    some c.args.x c.parts-p.result.m c.parts-p.result.e (under (goal.at.returns-else-e-lt1073 c).Start) c.parts-p.ensures
+returns-else-e-lt1073 c = some c.args.x c.parts-p.result.m c.parts-p.result.e (under (goal.at.returns-else-e-lt1073 c).Start) c.parts-p.ensures

@@ -11,27 +11,27 @@ held c = subst T (sym c.well_formed.0.1) tt
 
 pub half_up-requires : goal.half_up-requires
 unfolding of_bits
-half_up-requires c = record { x_value = c.if-x.true; pos_value = c.if-x-2.true; }
+half_up-requires c = record { x_value = c.if-x.true; pos_value = c.if-x-2.true }
 
 pub int_to_float-result : goal.int_to_float-result
 unfolding of_bits in_float
-int_to_float-result c =    let t = c.half_up in
+int_to_float-result c = let t = c.half_up in
     let x = c.args.x in
     le→leb t.result (2 ^ 53) (subst (λ (z : ℕ). z ≤ 2 ^ 53) (sym t.ensures) (closer_le x (small x c.if-x.true c.if-x-2.true)))
 
 pub half_up-requires-then-x-4 : goal.half_up-requires-then-x-4
 unfolding of_bits
-half_up-requires-then-x-4 c = record { x_value = turned c.args.x c.if-x-3.true; pos_value = c.if-x-4.true; }
+half_up-requires-then-x-4 c = record { x_value = turned c.args.x c.if-x-3.true; pos_value = c.if-x-4.true }
 
 pub int_to_float-result-then-x-4 : goal.int_to_float-result-then-x-4
 unfolding of_bits in_float
-int_to_float-result-then-x-4 c =    let t = c.half_up-then-x-4 in
+int_to_float-result-then-x-4 c = let t = c.half_up-then-x-4 in
     let x = c.args.x in
     le→leb t.result (2 ^ 53) (subst (λ (z : ℕ). z ≤ 2 ^ 53) (sym t.ensures) (closer_le (neg x) (small (neg x) (turned x c.if-x-3.true) c.if-x-4.true)))
 
 pub returns-then-x-2 : goal.returns-then-x-2
 unfolding of_bits
-returns-then-x-2 c =    let t = c.half_up in
+returns-then-x-2 c = let t = c.half_up in
     let x = c.args.x in
     round-over x (small x c.if-x.true c.if-x-2.true).is_pos t.result t.ensures
 
@@ -41,7 +41,7 @@ returns-else-x-2 c = (large_over c.args.x (held (goal.at.returns-else-x-2 c).Sta
 
 pub returns-then-x-4 : goal.returns-then-x-4
 unfolding of_bits
-returns-then-x-4 c =    let t = c.half_up-then-x-4 in
+returns-then-x-4 c = let t = c.half_up-then-x-4 in
     let x = c.args.x in
     round_under x (small (neg x) (turned x c.if-x-3.true) c.if-x-4.true).is_pos t.result t.ensures
 

@@ -21,8 +21,8 @@ room_fits-requires c =    let s = c.args in
 
 pub returns-then-not-room_fits : goal.returns-then-not-room_fits
 returns-then-not-room_fits c =    let s = c.args in
-    crescent-full s.g s.prev s.c s.r s.map.now _ _ (sym (map_by_lem _ _ _ _ _ _ (both_are c.grid_fits.ensures (both_are c.point_fits.ensures c.disk_fits.ensures)) c.map_refusal-no.ensures) ∙ c.if-no-ne0.false) (sym c.room_fits.ensures ∙ not-true _ c.if-not-room_fits.true)
+    crescent-full s.g s.prev s.c s.r s.map.now _ _ (sym (map_by_lem _ _ _ _ _ _ (both_are c.grid_fits.ensures (both_are c.point_fits.ensures c.disk_fits.ensures)) c.map_refusal-no.ensures) ∙ c.if-no-ne0.false) (sym c.room_fits.ensures ∙ c.if-not-room_fits.true)
 
 pub returns : goal.returns
 returns c =    let s = c.args in
-    crescent-fits s.g s.prev s.c s.r s.map.now _ _ (sym (map_by_lem _ _ _ _ _ _ (both_are c.grid_fits.ensures (both_are c.point_fits.ensures c.disk_fits.ensures)) c.map_refusal-no.ensures) ∙ c.if-no-ne0.false) (sym c.room_fits.ensures ∙ not-false _ c.if-not-room_fits.false)
+    crescent-fits s.g s.prev s.c s.r s.map.now _ _ (sym (map_by_lem _ _ _ _ _ _ (both_are c.grid_fits.ensures (both_are c.point_fits.ensures c.disk_fits.ensures)) c.map_refusal-no.ensures) ∙ c.if-no-ne0.false) (sym c.room_fits.ensures ∙ c.if-not-room_fits.false)

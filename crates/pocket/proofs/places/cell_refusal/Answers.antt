@@ -9,12 +9,12 @@ use Rattle.pocket.proofs.places.cell_refusal.Goals as goal
 
 pub returns-then-not-grid_fits-point_fits : goal.returns-then-not-grid_fits-point_fits
 unfolding cell_refusal
-returns-then-not-grid_fits-point_fits c = when_not _ _ (both_are c.grid_fits.ensures c.point_fits.ensures) (not-true _ c.if-not-grid_fits-point_fits.true) _ _
+returns-then-not-grid_fits-point_fits c = when_not _ _ (both_are c.grid_fits.ensures c.point_fits.ensures) c.if-not-grid_fits-point_fits.true _ _
 
 pub returns-then-not-sides_fit : goal.returns-then-not-sides_fit
 unfolding cell_refusal
-returns-then-not-sides_fit c = when_yes _ _ (both_are c.grid_fits.ensures c.point_fits.ensures) (not-false _ c.if-not-grid_fits-point_fits.false) _ _ _ (when_not _ _ c.sides_fit.ensures (not-true _ c.if-not-sides_fit.true) _ _)
+returns-then-not-sides_fit c = when_yes _ _ (both_are c.grid_fits.ensures c.point_fits.ensures) c.if-not-grid_fits-point_fits.false _ _ _ (when_not _ _ c.sides_fit.ensures c.if-not-sides_fit.true _ _)
 
 pub returns : goal.returns
 unfolding cell_refusal
-returns c = when_yes _ _ (both_are c.grid_fits.ensures c.point_fits.ensures) (not-false _ c.if-not-grid_fits-point_fits.false) _ _ _ (when_yes _ _ c.sides_fit.ensures (not-false _ c.if-not-sides_fit.false) _ _ _ refl)
+returns c = when_yes _ _ (both_are c.grid_fits.ensures c.point_fits.ensures) c.if-not-grid_fits-point_fits.false _ _ _ (when_yes _ _ c.sides_fit.ensures c.if-not-sides_fit.false _ _ _ refl)

@@ -8,12 +8,12 @@ use Rattle.pocket.proofs.places.fill_refusal.Goals as goal
 
 pub returns-then-not-grid_fits-coordinates_fit : goal.returns-then-not-grid_fits-coordinates_fit
 unfolding fill_refusal
-returns-then-not-grid_fits-coordinates_fit c = when_not _ _ (both_are c.grid_fits.ensures c.coordinates_fit.ensures) (not-true _ c.if-not-grid_fits-coordinates_fit.true) _ _
+returns-then-not-grid_fits-coordinates_fit c = when_not _ _ (both_are c.grid_fits.ensures c.coordinates_fit.ensures) c.if-not-grid_fits-coordinates_fit.true _ _
 
 pub returns-then-not-shape_fits : goal.returns-then-not-shape_fits
 unfolding fill_refusal
-returns-then-not-shape_fits c = when_yes _ _ (both_are c.grid_fits.ensures c.coordinates_fit.ensures) (not-false _ c.if-not-grid_fits-coordinates_fit.false) _ _ _ (when_not _ _ c.shape_fits.ensures (not-true _ c.if-not-shape_fits.true) _ _)
+returns-then-not-shape_fits c = when_yes _ _ (both_are c.grid_fits.ensures c.coordinates_fit.ensures) c.if-not-grid_fits-coordinates_fit.false _ _ _ (when_not _ _ c.shape_fits.ensures c.if-not-shape_fits.true _ _)
 
 pub returns : goal.returns
 unfolding fill_refusal
-returns c = when_yes _ _ (both_are c.grid_fits.ensures c.coordinates_fit.ensures) (not-false _ c.if-not-grid_fits-coordinates_fit.false) _ _ _ (when_yes _ _ c.shape_fits.ensures (not-false _ c.if-not-shape_fits.false) _ _ _ c.size_refusal.ensures)
+returns c = when_yes _ _ (both_are c.grid_fits.ensures c.coordinates_fit.ensures) c.if-not-grid_fits-coordinates_fit.false _ _ _ (when_yes _ _ c.shape_fits.ensures c.if-not-shape_fits.false _ _ _ c.size_refusal.ensures)

@@ -7,14 +7,14 @@ use Rattle.pocket.proofs.AskedLaws.{sides-few, size_odd, size_short, size_fits}
 use Rattle.pocket.proofs.refusals.size_refusal.Goals as goal
 
 pub returns-then-not-sides_fit : goal.returns-then-not-sides_fit
-returns-then-not-sides_fit c = size_odd _ _ _ (sym c.sides_fit.ensures ∙ not-true _ c.if-not-sides_fit.true)
+returns-then-not-sides_fit c = size_odd _ _ _ (sym c.sides_fit.ensures ∙ c.if-not-sides_fit.true)
 
 pub overflow_mul-ny : goal.overflow_mul-ny
 overflow_mul-ny c =    let s = c.args in
-    omega (arith, sides-few s.nx s.ny (sym c.sides_fit.ensures ∙ not-false _ c.if-not-sides_fit.false))
+    omega (arith, sides-few s.nx s.ny (sym c.sides_fit.ensures ∙ c.if-not-sides_fit.false))
 
 pub returns-then-long-ny : goal.returns-then-long-ny
-returns-then-long-ny c = size_short _ _ _ (sym c.sides_fit.ensures ∙ not-false _ c.if-not-sides_fit.false) c.if-long-ny.true
+returns-then-long-ny c = size_short _ _ _ (sym c.sides_fit.ensures ∙ c.if-not-sides_fit.false) c.if-long-ny.true
 
 pub returns : goal.returns
-returns c = size_fits _ _ _ (sym c.sides_fit.ensures ∙ not-false _ c.if-not-sides_fit.false) c.if-long-ny.false
+returns c = size_fits _ _ _ (sym c.sides_fit.ensures ∙ c.if-not-sides_fit.false) c.if-long-ny.false

@@ -32,7 +32,7 @@ pub loop-i-smaller : goal.loop-i-smaller
 loop-i-smaller c = omega (arith, c.loop-i-test.true)
 
 pub loop-i-preserved : goal.loop-i-preserved
-loop-i-preserved c = let l = c.loop-i in (edges_more _ _ _ _ _ _ _ l.invariant.0 (c.is_near.ensures (not-false _ c.if-not-is_near.false)), omega (arith, l.invariant.1))
+loop-i-preserved c = let l = c.loop-i in (edges_more _ _ _ _ _ _ _ l.invariant.0 (c.is_near.ensures c.if-not-is_near.false), omega (arith, l.invariant.1))
 
 pub returns : goal.returns
 returns c = λ t. edges-end _ _ _ _ _ _ _ _ (omega (arith, c.loop-i-test.false, c.end_with-i-end.ensures)) c.loop-i.invariant.0

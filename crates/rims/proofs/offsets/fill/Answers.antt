@@ -12,4 +12,4 @@ pub returns-then-not-are_told : goal.returns-then-not-are_told
 returns-then-not-are_told c = rims-off _ _ _ _ c.fill_entries.ensures.1
 
 pub returns-else-not-are_told : goal.returns-else-not-are_told
-returns-else-not-are_told c = rims-told _ _ _ _ c.fill_entries.ensures.1 (c.are_told.ensures (not-false _ c.if-not-are_told.false))
+returns-else-not-are_told c = rims-told _ _ _ _ c.fill_entries.ensures.1 (c.are_told.ensures c.if-not-are_told.false)

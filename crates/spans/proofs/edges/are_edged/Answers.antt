@@ -20,7 +20,7 @@ pub overflow_step-i : goal.overflow_step-i
 overflow_step-i c = omega (arith, c.requires)
 
 pub loop-i-preserved : goal.loop-i-preserved
-loop-i-preserved c = edged_more _ _ _ c.loop-i.invariant (c.is_edged.ensures (not-false _ c.if-not-is_edged.false))
+loop-i-preserved c = edged_more _ _ _ c.loop-i.invariant (c.is_edged.ensures c.if-not-is_edged.false)
 
 pub returns : goal.returns
 returns c = λ t. edged_end _ _ _ _ c.loop-i-test.false c.loop-i.invariant

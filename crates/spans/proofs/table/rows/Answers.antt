@@ -17,7 +17,7 @@ room c = omega (arith, c.loop-q-test.true, c.requires.s_nonzero, c.loop-q.invari
 
 told : (c : After-struct_known-in-loop-q-1)
     → let s = c.args in RowTold s.g s.r s.s c.loop-q.q c.row-p.result
-told c = c.row-p.ensures (not-false _ c.if-not-p.false)
+told c = c.row-p.ensures c.if-not-p.false
 
 pub overflow_mul-q-end : goal.overflow_mul-q-end
 overflow_mul-q-end c = omega (arith, c.requires.s_nonzero)
