@@ -27,4 +27,4 @@ returns c =    let k = c.stock.auto.w.1.1.1.1.1 in
     started-is c.args.s c.args.whole c.args.vs.now c.args.lens.now c.args.regions.now c.args.b.now c.args.u.now c.args.w.now c.requires.sides
     (held-is c.args.vs.now c.args.lens.now c.args.regions.now c.requires.all_held 0 c.requires.all_held.some _ c.requires.region_value) c.requires.bounds c.requires.room
     _ _ _ _ _ c.stock.ensures c.reach.ensures c.tables.ensures c.clear_log.ensures
-    (l.0 ∙ k.0) (c.clear_log.auto.1.0 ∙ l.1.0) (c.tables.auto.1.0 ∙ l.1.1.0 ∙ k.1.0)
+    (l.0 ∙ k.0) (c.clear_log.auto.u.0 ∙ l.1.0) (c.tables.auto.w.0 ∙ l.1.1.0 ∙ k.1.0)

@@ -64,10 +64,10 @@ not_first : (c : Else-same_edge) → n-at c.before.before.before.before.before �
 not_first c z = eqb-false _ _ (sym c.same_edge.ensures ∙ c.if-same_edge.false) (n_is c.before.before.before.before ∙ z)
 
 used : (c : Then-is_used) → get_or c.loop-g.marks (n-at c.before.before.before.before.before.before.before.before) 0 ≡ 1
-used c = ap (λ (k : ℕ). get_or c.loop-g.marks k 0) (sym (n_is c.before.before.before.before.before.before.before)) ∙ eqb-true _ _ (sym c.is_used.ensures ∙ c.if-is_used.true)
+used c = ap (λ (k : ℕ). get_or c.loop-g.marks k 0) (sym (n_is c.before.before.before.before.before.before)) ∙ eqb-true _ _ (sym c.is_used.ensures ∙ c.if-is_used.true)
 
 fresh : (c : Else-is_used) → get_or c.loop-g.marks (n-at c.before.before.before.before.before.before.before.before) 0 ≡ 1 → ⊥
-fresh c z = eqb-false _ _ (sym c.is_used.ensures ∙ c.if-is_used.false) (ap (λ (k : ℕ). get_or c.loop-g.marks k 0) (n_is c.before.before.before.before.before.before.before) ∙ z)
+fresh c z = eqb-false _ _ (sym c.is_used.ensures ∙ c.if-is_used.false) (ap (λ (k : ℕ). get_or c.loop-g.marks k 0) (n_is c.before.before.before.before.before.before) ∙ z)
 
 pub use_edge-requires : goal.use_edge-requires
 use_edge-requires c = below (goal.at.use_edge-requires c).Start _ c.requires.chaining.start
@@ -113,32 +113,32 @@ pub returns-then-same_edge : goal.returns-then-same_edge
 returns-then-same_edge c = out-closed _ _ _ _ _ _ c.requires.chaining.room _ _ _ _ (follows (goal.at.returns-then-same_edge c).At-loop-g) (not_none (goal.at.returns-then-same_edge c).Else-is_nothing) (is-first (goal.at.returns-then-same_edge c).Then-same_edge)
 
 pub is_used-requires : goal.is_used-requires
-is_used-requires c = omega (arith, placed (goal.at.is_used-requires c).After-slice_known-4-1 (not_none (goal.at.is_used-requires c).After-is_nothing), (follows (goal.at.is_used-requires c).After-slice_known-4-1).walked.long, n_is (goal.at.is_used-requires c).At-loop-g)
+is_used-requires c = omega (arith, placed (goal.at.is_used-requires c).At-loop-g (not_none (goal.at.is_used-requires c).Else-is_nothing), (follows (goal.at.is_used-requires c).At-loop-g).walked.long, n_is (goal.at.is_used-requires c).After-next_of-n)
 
 pub shape_of-marks-then-is_used : goal.shape_of-marks-then-is_used
-shape_of-marks-then-is_used c = (follows (goal.at.shape_of-marks-then-is_used c).After-slice_known-4-1).walked.long
+shape_of-marks-then-is_used c = (follows (goal.at.shape_of-marks-then-is_used c).At-loop-g).walked.long
 
 pub shape_of-pts-then-is_used : goal.shape_of-pts-then-is_used
-shape_of-pts-then-is_used c = (follows (goal.at.shape_of-pts-then-is_used c).After-slice_known-4-1).long
+shape_of-pts-then-is_used c = (follows (goal.at.shape_of-pts-then-is_used c).At-loop-g).long
 
 pub returns-then-is_used : goal.returns-then-is_used
-returns-then-is_used c = out-used _ _ _ _ _ _ c.requires.chaining.room _ _ _ _ (follows (goal.at.returns-then-is_used c).After-slice_known-4-1) (not_none (goal.at.returns-then-is_used c).After-is_nothing) (not_first (goal.at.returns-then-is_used c).After-same_edge) (used (goal.at.returns-then-is_used c).Then-is_used)
+returns-then-is_used c = out-used _ _ _ _ _ _ c.requires.chaining.room _ _ _ _ (follows (goal.at.returns-then-is_used c).At-loop-g) (not_none (goal.at.returns-then-is_used c).Else-is_nothing) (not_first (goal.at.returns-then-is_used c).Else-same_edge) (used (goal.at.returns-then-is_used c).Then-is_used)
 
 pub use_edge-requires-in-loop-g : goal.use_edge-requires-in-loop-g
-use_edge-requires-in-loop-g c = omega (arith, placed (goal.at.use_edge-requires-in-loop-g c).After-slice_known-4-1 (not_none (goal.at.use_edge-requires-in-loop-g c).After-is_nothing), (follows (goal.at.use_edge-requires-in-loop-g c).After-slice_known-4-1).walked.long, n_is (goal.at.use_edge-requires-in-loop-g c).At-loop-g)
+use_edge-requires-in-loop-g c = omega (arith, placed (goal.at.use_edge-requires-in-loop-g c).At-loop-g (not_none (goal.at.use_edge-requires-in-loop-g c).Else-is_nothing), (follows (goal.at.use_edge-requires-in-loop-g c).At-loop-g).walked.long, n_is (goal.at.use_edge-requires-in-loop-g c).After-next_of-n)
 
 pub crossing-requires : goal.crossing-requires
-crossing-requires c = record { over = c.requires.over; between = subst (Between c.args.g) (sym c.next_of-n.ensures) (leads (goal.at.crossing-requires c).After-slice_known-4-1 (not_none (goal.at.crossing-requires c).After-is_nothing)); }
+crossing-requires c = record { over = c.requires.over; between = subst (Between c.args.g) (sym c.next_of-n.ensures) (leads (goal.at.crossing-requires c).At-loop-g (not_none (goal.at.crossing-requires c).Else-is_nothing)); }
 
 pub extend-t-requires : goal.extend-t-requires
-extend-t-requires c = point-room _ _ _ _ _ _ c.requires.chaining.room _ _ _ _ _ (follows (goal.at.extend-t-requires c).After-slice_known-4-1) (placed (goal.at.extend-t-requires c).After-slice_known-4-1 (not_none (goal.at.extend-t-requires c).After-is_nothing)) (fresh (goal.at.extend-t-requires c).Else-is_used) (wide (goal.at.extend-t-requires c).Start)
+extend-t-requires c = point-room _ _ _ _ _ _ c.requires.chaining.room _ _ _ _ _ (follows (goal.at.extend-t-requires c).At-loop-g) (placed (goal.at.extend-t-requires c).At-loop-g (not_none (goal.at.extend-t-requires c).Else-is_nothing)) (fresh (goal.at.extend-t-requires c).Else-is_used) (wide (goal.at.extend-t-requires c).Start)
 
 pub loop-g-smaller : goal.loop-g-smaller
 loop-g-smaller c =    let m = c.loop-g.marks in
     let n = get_or c.args.next.now c.loop-g.cur.0 0 in
-    let b = placed (goal.at.loop-g-smaller c).After-slice_known-4-1 (not_none (goal.at.loop-g-smaller c).After-is_nothing) in
-    let w = (follows (goal.at.loop-g-smaller c).After-slice_known-4-1).walked.long in
-    let u = ap ones (c.use_edge-in-loop-g.ensures ∙ ap (λ (k : ℕ). set m k 1) (n_is (goal.at.loop-g-smaller c).At-loop-g)) in
+    let b = placed (goal.at.loop-g-smaller c).At-loop-g (not_none (goal.at.loop-g-smaller c).Else-is_nothing) in
+    let w = (follows (goal.at.loop-g-smaller c).At-loop-g).walked.long in
+    let u = ap ones (c.use_edge-in-loop-g.ensures ∙ ap (λ (k : ℕ). set m k 1) (n_is (goal.at.loop-g-smaller c).After-next_of-n)) in
     let o = ap length c.use_edge.ensures in
     omega (arith, u, o, ones-mark m n (omega arith) (ne_eqb _ _ (fresh (goal.at.loop-g-smaller c).Else-is_used)), ones_le (set m n 1), length-set m n 1, length-set c.args.marks.now c.args.s.0 1)
 
@@ -150,6 +150,6 @@ loop-g-preserved c =    let a = c.args in
           let n = length-set m a.s.0 1 in
           let o = length-set a.marks.now a.s.0 1 in
           rw (x.1, x.0, c.crossing.ensures, c.use_edge-in-loop-g.ensures, c.next_of-n.ensures)
-          (following_more _ _ m w _ _ h.room _ _ _ _ _ (c.loop-g.invariant.following m w h b d e) refl (not_none (goal.at.loop-g-preserved c).After-is_nothing) (not_first (goal.at.loop-g-preserved c).After-same_edge) (fresh (goal.at.loop-g-preserved c).Else-is_used)
-          (omega (arith, placed (goal.at.loop-g-preserved c).After-slice_known-4-1 (not_none (goal.at.loop-g-preserved c).After-is_nothing), ap length d, ap length c.use_edge.ensures)) (omega (arith, h.marks-long, h.pts-long)));
+          (following_more _ _ m w _ _ h.room _ _ _ _ _ (c.loop-g.invariant.following m w h b d e) refl (not_none (goal.at.loop-g-preserved c).Else-is_nothing) (not_first (goal.at.loop-g-preserved c).Else-same_edge) (fresh (goal.at.loop-g-preserved c).Else-is_used)
+          (omega (arith, placed (goal.at.loop-g-preserved c).At-loop-g (not_none (goal.at.loop-g-preserved c).Else-is_nothing), ap length d, ap length c.use_edge.ensures)) (omega (arith, h.marks-long, h.pts-long)));
     }

@@ -29,16 +29,16 @@ pub loop-k-init : goal.loop-k-init
 loop-k-init c = (tour_none _ _ _ _ _ _ _ _ _ refl c.requires.tracing, omega arith)
 
 pub overflow_mul-k : goal.overflow_mul-k
-overflow_mul-k c = omega (arith, (placed (goal.at.overflow_mul-k c).At-loop-k).0, (placed (goal.at.overflow_mul-k c).At-loop-k).2)
+overflow_mul-k c = omega (arith, (placed (goal.at.overflow_mul-k c).In-loop-k).0, (placed (goal.at.overflow_mul-k c).In-loop-k).2)
 
 pub edge_at-s-requires : goal.edge_at-s-requires
-edge_at-s-requires c = let h = placed (goal.at.edge_at-s-requires c).At-loop-k in omega (arith, h.0, h.1)
+edge_at-s-requires c = let h = placed (goal.at.edge_at-s-requires c).In-loop-k in omega (arith, h.0, h.1)
 
 pub start_at-c-requires : goal.start_at-c-requires
-start_at-c-requires c = record { over = c.requires.over; tracing = c.loop-k.invariant.0.tracing; between = subst (Between c.args.g) (sym c.edge_at-s.ensures) (joins (goal.at.start_at-c-requires c).At-loop-k).from; }
+start_at-c-requires c = record { over = c.requires.over; tracing = c.loop-k.invariant.0.tracing; between = subst (Between c.args.g) (sym c.edge_at-s.ensures) (joins (goal.at.start_at-c-requires c).In-loop-k).from; }
 
 pub overflow_step-k : goal.overflow_step-k
-overflow_step-k c = let h = placed (goal.at.overflow_step-k c).At-loop-k in omega (arith, h.0, h.2)
+overflow_step-k c = let h = placed (goal.at.overflow_step-k c).In-loop-k in omega (arith, h.0, h.2)
 
 pub loop-k-smaller : goal.loop-k-smaller
 loop-k-smaller c = omega (arith, c.loop-k-test.true)
@@ -46,7 +46,7 @@ loop-k-smaller c = omega (arith, c.loop-k-test.true)
 pub loop-k-preserved : goal.loop-k-preserved
 loop-k-preserved c =    let l = c.loop-k in
     let a = c.args in
-    let h = placed (goal.at.loop-k-preserved c).At-loop-k in (
+    let h = placed (goal.at.loop-k-preserved c).In-loop-k in (
       tour_more (edge_point a.g a.f.now a.level) a.g a.n a.first a.words.now a.pts.now _ l.k l.words l.marks l.pts l.c l.invariant.0 _
           (ap (λ (e : EdgeNo). e.0) c.edge_at-s.ensures ∙ sym (ap (λ (s : Segment). s.from.0) (segment-read a.n l.k a.words.now l.words l.invariant.0.segments_kept h.0))) _ _ _ _ c.start_at-c.ensures,
       omega (arith, c.loop-k-test.true),

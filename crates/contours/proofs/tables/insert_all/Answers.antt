@@ -35,31 +35,31 @@ pub overflow_mul-i : goal.overflow_mul-i
 overflow_mul-i c = let h = room (goal.at.overflow_mul-i c).In-loop-k in omega (arith, h.0, h.1)
 
 pub edge_at-from-requires : goal.edge_at-from-requires
-edge_at-from-requires c = let h = room (goal.at.edge_at-from-requires c).At-loop-k in omega (arith, h.0, h.1, h.2)
+edge_at-from-requires c = let h = room (goal.at.edge_at-from-requires c).In-loop-k in omega (arith, h.0, h.1, h.2)
 
 pub overflow_add-i : goal.overflow_add-i
-overflow_add-i c = let h = room (goal.at.overflow_add-i c).After-next_at-next in omega (arith, h.0, h.1, h.2)
+overflow_add-i c = let h = room (goal.at.overflow_add-i c).In-loop-k in omega (arith, h.0, h.1, h.2)
 
 pub edge_at-to-requires : goal.edge_at-to-requires
-edge_at-to-requires c = let h = room (goal.at.edge_at-to-requires c).After-next_at-next in omega (arith, h.0, h.1, h.2)
+edge_at-to-requires c = let h = room (goal.at.edge_at-to-requires c).In-loop-k in omega (arith, h.0, h.1, h.2)
 
 pub index_of_edge-requires : goal.index_of_edge-requires
 index_of_edge-requires c = tt
 
 pub overflow_add-next : goal.overflow_add-next
-overflow_add-next c = let h = room (goal.at.overflow_add-next c).After-next_at-next in omega (arith, h.1, h.2, (below (goal.at.overflow_add-next c).After-next_at-next).from, from_is (goal.at.overflow_add-next c).After-index_of_edge, c.next_at-next.ensures)
+overflow_add-next c = let h = room (goal.at.overflow_add-next c).In-loop-k in omega (arith, h.1, h.2, (below (goal.at.overflow_add-next c).In-loop-k).from, from_is (goal.at.overflow_add-next c).After-index_of_edge, c.next_at-next.ensures)
 
 pub put_edge-requires : goal.put_edge-requires
-put_edge-requires c = let h = room (goal.at.put_edge-requires c).After-next_at-next in omega (arith, h.1, h.2, (below (goal.at.put_edge-requires c).After-next_at-next).from, from_is (goal.at.put_edge-requires c).After-index_of_edge, c.next_at-next.ensures)
+put_edge-requires c = let h = room (goal.at.put_edge-requires c).In-loop-k in omega (arith, h.1, h.2, (below (goal.at.put_edge-requires c).In-loop-k).from, from_is (goal.at.put_edge-requires c).After-index_of_edge, c.next_at-next.ensures)
 
 pub index_of_edge-requires-in-loop-k : goal.index_of_edge-requires-in-loop-k
 index_of_edge-requires-in-loop-k c = tt
 
 pub bounds-marks-index_of_edge : goal.bounds-marks-index_of_edge
-bounds-marks-index_of_edge c = let h = room (goal.at.bounds-marks-index_of_edge c).After-next_at-next in omega (arith, h.1, h.3, (below (goal.at.bounds-marks-index_of_edge c).After-next_at-next).to, c.index_of_edge-in-loop-k.ensures, ap (λ (e : EdgeNo). e.0) c.edge_at-to.ensures)
+bounds-marks-index_of_edge c = let h = room (goal.at.bounds-marks-index_of_edge c).In-loop-k in omega (arith, h.1, h.3, (below (goal.at.bounds-marks-index_of_edge c).In-loop-k).to, c.index_of_edge-in-loop-k.ensures, ap (λ (e : EdgeNo). e.0) c.edge_at-to.ensures)
 
 pub overflow_step-k : goal.overflow_step-k
-overflow_step-k c = let h = room (goal.at.overflow_step-k c).After-next_at-next in omega (arith, h.0, h.1)
+overflow_step-k c = let h = room (goal.at.overflow_step-k c).In-loop-k in omega (arith, h.0, h.1)
 
 pub loop-k-smaller : goal.loop-k-smaller
 loop-k-smaller c = omega (arith, c.loop-k-test.true)
@@ -70,7 +70,7 @@ loop-k-preserved c =    let l = c.loop-k in
     let a = c.args in
     let to = ap (λ (e : EdgeNo). e.0) c.edge_at-to.ensures in (
       rw (c.put_edge.ensures, c.index_of_edge-in-loop-k.ensures, from_is (goal.at.loop-k-preserved c).After-index_of_edge, c.next_at-next.ensures, to)
-          (inserted_more _ _ _ _ _ _ l.invariant.0 (omega (arith, p.few, c.loop-k-test.true)) (below (goal.at.loop-k-preserved c).After-next_at-next).from),
+          (inserted_more _ _ _ _ _ _ l.invariant.0 (omega (arith, p.few, c.loop-k-test.true)) (below (goal.at.loop-k-preserved c).In-loop-k).from),
       omega (arith, c.loop-k-test.true),
     )
 

@@ -18,7 +18,7 @@ pub overflow_add-first : goal.overflow_add-first
 overflow_add-first c = omega (arith, c.requires.listed.fit_triples, c.well_formed)
 
 pub list_pass-requires : goal.list_pass-requires
-list_pass-requires c =  let f = fits (goal.at.list_pass-requires c).After-slice_known-3-1 in let m = c.moves_of-moves.ensures in record { route_in_bounds = c.requires.route_in_bounds; n_in_bounds = omega (arith, f.0, m); route_in_bounds_2 = omega (arith, f.1, m); countable = c.requires.listed.countable; }
+list_pass-requires c =  let f = fits (goal.at.list_pass-requires c).Else-no-ne0 in let m = c.moves_of-moves.ensures in record { route_in_bounds = c.requires.route_in_bounds; n_in_bounds = omega (arith, f.0, m); route_in_bounds_2 = omega (arith, f.1, m); countable = c.requires.listed.countable; }
 
 pub overflow_mul-s : goal.overflow_mul-s
 overflow_mul-s c = let h = c.requires.sides in omega (arith, h.cells)
@@ -27,16 +27,16 @@ pub settle-requires : goal.settle-requires
 settle-requires c = record { n_le_most = c.requires.sides.cells; n_in_bounds = c.requires.s_in_bounds; logged = c.requires.logged; }
 
 pub overflow_add-result : goal.overflow_add-result
-overflow_add-result c = omega (arith, (fits (goal.at.overflow_add-result c).After-slice_known-3-1).1, c.well_formed)
+overflow_add-result c = omega (arith, (fits (goal.at.overflow_add-result c).Else-no-ne0).1, c.well_formed)
 
 pub overflow_add-result-2 : goal.overflow_add-result-2
-overflow_add-result-2 c = omega (arith, (fits (goal.at.overflow_add-result-2 c).After-slice_known-3-1).1, c.well_formed)
+overflow_add-result-2 c = omega (arith, (fits (goal.at.overflow_add-result-2 c).Else-no-ne0).1, c.well_formed)
 
 pub overflow_add-result-3 : goal.overflow_add-result-3
-overflow_add-result-3 c = omega (arith, (fits (goal.at.overflow_add-result-3 c).After-slice_known-3-1).0, c.well_formed)
+overflow_add-result-3 c = omega (arith, (fits (goal.at.overflow_add-result-3 c).Else-no-ne0).0, c.well_formed)
 
 pub overflow_add-result-4 : goal.overflow_add-result-4
-overflow_add-result-4 c = omega (arith, (fits (goal.at.overflow_add-result-4 c).After-slice_known-3-1).0, c.well_formed)
+overflow_add-result-4 c = omega (arith, (fits (goal.at.overflow_add-result-4 c).Else-no-ne0).0, c.well_formed)
 
 pub returns : goal.returns
 returns c =  let l = c.list_pass.ensures in

@@ -16,7 +16,7 @@ pub from_above-requires : goal.from_above-requires
 from_above-requires c = tt
 
 pub loop-k-preserved : goal.loop-k-preserved
-loop-k-preserved c =    let l = c.loop-k in
+loop-k-preserved c = let l = c.loop-k in
     record {
       high = omega arith;
       long = length-set l.work l.k _ ∙ l.invariant.long;

@@ -20,7 +20,7 @@ pub from_below-requires : goal.from_below-requires
 from_below-requires c = tt
 
 pub loop-k-preserved : goal.loop-k-preserved
-loop-k-preserved c =    let l = c.loop-k in
+loop-k-preserved c = let l = c.loop-k in
     record {
       high = omega arith;
       long = length-set l.work (l.k - 1) _ ∙ l.invariant.long;

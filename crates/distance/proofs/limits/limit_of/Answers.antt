@@ -14,7 +14,7 @@ pub splits-requires : goal.splits-requires
 splits-requires c = tt
 
 pub returns-then-splits : goal.returns-then-splits
-returns-then-splits c =    let o = c.ordered.ensures c.if-ordered.true in
+returns-then-splits c = let o = c.ordered.ensures c.if-ordered.true in
     told _ _ _ o _ _ (omega arith) (c.splits.ensures c.if-splits.true)
 
 pub returns-after-loop-n : goal.returns-after-loop-n

@@ -16,7 +16,7 @@ pub distance_of-requires : goal.distance_of-requires
 distance_of-requires c = tt
 
 pub loop-k-preserved : goal.loop-k-preserved
-loop-k-preserved c =    let l = c.loop-k in
+loop-k-preserved c = let l = c.loop-k in
     record {
       high = omega arith;
       long = length-set l.out l.k _ ∙ l.invariant.long;

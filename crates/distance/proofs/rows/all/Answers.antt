@@ -22,7 +22,7 @@ pub overflow_mul-j : goal.overflow_mul-j
 overflow_mul-j c = omega (arith, inside (goal.at.overflow_mul-j c).In-loop-j, c.well_formed)
 
 pub row-requires : goal.row-requires
-row-requires c = record { nx_bound = c.requires.map_sides.wide; nx_bound_2 = inside (goal.at.row-requires c).In-loop-j; nx_in_bounds = omega (arith, c.requires.nx_in_bounds, c.loop-j.invariant.long); }
+row-requires c = record { nx_bound = c.requires.map_sides.wide; nx_bound_2 = inside (goal.at.row-requires c).In-loop-j; nx_in_bounds = omega (arith, c.requires.nx_in_bounds, c.loop-j.invariant.long) }
 
 pub overflow_step-j : goal.overflow_step-j
 overflow_step-j c = omega (arith, c.loop-j-test.true, c.requires.map_sides.high)
@@ -31,7 +31,7 @@ pub loop-j-smaller : goal.loop-j-smaller
 loop-j-smaller c = let t = c.loop-j-test.true in omega arith
 
 pub loop-j-preserved : goal.loop-j-preserved
-loop-j-preserved c =    let i = c.loop-j.invariant in
+loop-j-preserved c = let i = c.loop-j.invariant in
     let t = c.loop-j-test.true in
     let r = c.row in
     record {

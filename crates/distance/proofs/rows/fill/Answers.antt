@@ -40,12 +40,12 @@ pub overflow_cast-a : goal.overflow_cast-a
 overflow_cast-a c = let e = entry (goal.at.overflow_cast-a c).In-loop-k in omega arith
 
 pub span-requires : goal.span-requires
-span-requires c =     let e = entry (goal.at.span-requires c).In-loop-k in
+span-requires c = let e = entry (goal.at.span-requires c).In-loop-k in
     let g = ends (goal.at.span-requires c).In-loop-k in
-    let w = c.requires.sound.wide in record { e_in_bounds = omega (arith, c.requires.nx_bound, c.requires.nx_in_bounds, c.loop-k.invariant.long); e_bound = omega arith; p_bound = omega arith; p_bound_2 = e.root; key_bound = e.small; }
+    let w = c.requires.sound.wide in record { e_in_bounds = omega (arith, c.requires.nx_bound, c.requires.nx_in_bounds, c.loop-k.invariant.long); e_bound = omega arith; p_bound = omega arith; p_bound_2 = e.root; key_bound = e.small }
 
 pub loop-k-preserved : goal.loop-k-preserved
-loop-k-preserved c =    let l = c.loop-k in
+loop-k-preserved c = let l = c.loop-k in
     let p = c.span in
     let e = entry (goal.at.loop-k-preserved c).In-loop-k in
     record {

@@ -14,7 +14,7 @@ pub bounds-work-k-3 : goal.bounds-work-k-3
 bounds-work-k-3 c = simp length-set (omega arith)
 
 pub returns : goal.returns
-returns c =    let w = c.args.work.now in
+returns c = let w = c.args.work.now in
     let k = c.args.s + 3 * c.args.r in
     let w₁ = set w k c.args.q in
     let w₂ = set w₁ (k + 1) c.args.key in

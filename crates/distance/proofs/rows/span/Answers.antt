@@ -38,7 +38,7 @@ pub overflow_sub-work : goal.overflow_sub-work
 overflow_sub-work c = omega (arith, gap-square c.loop-x.x c.args.p)
 
 pub loop-x-preserved : goal.loop-x-preserved
-loop-x-preserved c =    let l = c.loop-x in
+loop-x-preserved c = let l = c.loop-x in
     record {
       low = omega arith;
       high = omega arith;

@@ -13,7 +13,7 @@ pub loop-k-init : goal.loop-k-init
 loop-k-init c = record { high = omega arith; long = refl; wrote = wrote_none _ _ _ _ }
 
 pub loop-k-preserved : goal.loop-k-preserved
-loop-k-preserved c =    let l = c.loop-k in
+loop-k-preserved c = let l = c.loop-k in
     record {
       high = omega arith;
       long = length-set l.work (c.args.start + l.k) _ ∙ l.invariant.long;

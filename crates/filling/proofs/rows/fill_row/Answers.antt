@@ -23,7 +23,7 @@ pub set_columns-requires : goal.set_columns-requires
 set_columns-requires c =     let f = c.columns_of-c in
     let i = c.cover_islands-some in
     let e = c.requires.centred.0.long in
-    let h = in_loop c.args.xs.now c.args.vs.now c.args.region.at c.size-n.result c.row_y-y.result in record { n_in_bounds = row_below _ _ _ _ c.requires.j_lt_ny c.requires.over.long; in_row = subst (λ (k : ℕ). InRow k f.result) e (has_in_row (length c.args.xs.now) h f.result f.new.1.1.1.1.1.1.0 f.ensures); n_in_bounds_2 = (omega (arith, c.requires.blank.0.long, i.auto.cover.1.1.1.1.1.0, f.auto.1.1.1.1.1.1.0), omega (arith, c.requires.blank.1.long, i.auto.cover.1.1.1.1.1.1.0)); }
+    let h = in_loop c.args.xs.now c.args.vs.now c.args.region.at c.size-n.result c.row_y-y.result in record { n_in_bounds = row_below _ _ _ _ c.requires.j_lt_ny c.requires.over.long; in_row = subst (λ (k : ℕ). InRow k f.result) e (has_in_row (length c.args.xs.now) h f.result f.new.1.1.1.1.1.1.0 f.ensures); n_in_bounds_2 = (omega (arith, c.requires.blank.0.long, i.auto.cover.1.1.1.1.1.0, f.auto.row.1.1.1.1.1.0), omega (arith, c.requires.blank.1.long, i.auto.cover.1.1.1.1.1.1.0)); }
 
 pub returns : goal.returns
 returns c =    let p = c.set_columns in
@@ -31,4 +31,4 @@ returns c =    let p = c.set_columns in
     let i = c.cover_islands-some in
     row-filled c.args.g c.args.xs.now c.args.vs.now c.args.lens.now c.args.region c.args.j _ _ c.requires.centred.0 c.row_y-y.ensures c.size-n.ensures
     f.result i.result _ _ f.ensures i.ensures.cover i.ensures.none _ _ _ _ p.ensures
-    (omega (arith, c.requires.blank.0.long, i.auto.cover.1.1.1.1.1.0, f.auto.1.1.1.1.1.1.0, p.auto.row.1.1.1.1.0)) (omega (arith, c.requires.blank.1.long, i.auto.cover.1.1.1.1.1.1.0, p.auto.row.1.1.1.1.1.0))
+    (omega (arith, c.requires.blank.0.long, i.auto.cover.1.1.1.1.1.0, f.auto.row.1.1.1.1.1.0, p.auto.row.1.1.1.1.0)) (omega (arith, c.requires.blank.1.long, i.auto.cover.1.1.1.1.1.1.0, p.auto.row.1.1.1.1.1.0))

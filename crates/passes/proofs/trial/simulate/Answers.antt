@@ -38,7 +38,7 @@ all-safe k = safe_then _ _ _ _ k.outer.invariant.1 k.loop-k.invariant.1
 leaves : (c : In-loop-k) (u : Pass) → sample_step c.args.s (allowed_at c.args.s c.args.wall.now c.args.vs.now c.args.lens.now) c.args.kept c.leg_at-leg.result c.loop-k.k (here c.before) ≡ Run.out u
     → u ≡ simulate_of c.args.s (allowed_at c.args.s c.args.wall.now c.args.vs.now c.args.lens.now) (points 0 (length c.args.guide.now / 2) c.args.guide.now) c.args.kept c.args.map.now c.args.log.now c.args.triples.now
 leaves c u e =
-    pass-out _ _ _ _ _ (some c.before.before.before.before.before) _ _ _ _ c.vertex-first.ensures c.if-room-kept.false _ c.put_triple.ensures _
+    pass-out _ _ _ _ _ ((let told : 1 ≤ length c.args.guide.now / 2 = half-some _ c.requires.usable.point in told)) _ _ _ _ c.vertex-first.ensures c.if-room-kept.false _ c.put_triple.ensures _
     (going_out _ _ _ _ _ _ _ c.outer.invariant.0 c.outer-test.true
     (leg_out _ _ _ _ _ _ c.outer.invariant.0.low c.outer-test.true _ _ _ c.leg_at-leg.ensures (going_out _ _ _ _ _ _ _ c.loop-k.invariant.0 c.loop-k-test.true e)))
 
@@ -61,7 +61,7 @@ pub loop-k-init : goal.loop-k-init
 loop-k-init c = (going_none _ _ _ _, safe_again _ _ _ c.outer.invariant.1)
 
 pub find_shift-f-requires : goal.find_shift-f-requires
-find_shift-f-requires c =  let p = c.requires in let h = all-safe (goal.at.find_shift-f-requires c).After-left-1 in record { walls = p.walls; tables = p.tables; over = over-same _ _ _ h.cells-long p.usable.over; tiled = tiled_fewer _ _ _ _ h.fewer p.tiled; }
+find_shift-f-requires c =  let p = c.requires in let h = all-safe (goal.at.find_shift-f-requires c).At-loop-k in record { walls = p.walls; tables = p.tables; over = over-same _ _ _ h.cells-long p.usable.over; tiled = tiled_fewer _ _ _ _ h.fewer p.tiled; }
 
 pub enum_known-found : goal.enum_known-found
 enum_known-found c = c.in-At.keys1
@@ -111,13 +111,13 @@ pub returns-after-outer : goal.returns-after-outer
 returns-after-outer c =    pass_on _ _ _ _ _ (some (goal.at.returns-after-outer c).At-outer) _ _ _ _ c.vertex-first.ensures c.if-room-kept.false _ c.put_triple.ensures _ (going_end _ _ _ _ _ _ c.outer.invariant.0 c.outer-test.false)
 
 pub shape_of-map-in_default : goal.shape_of-map-in_default
-shape_of-map-in_default c = (all-safe (goal.at.shape_of-map-in_default c).After-left-1).cells-long
+shape_of-map-in_default c = (all-safe (goal.at.shape_of-map-in_default c).At-loop-k).cells-long
 
 pub shape_of-log-in_default : goal.shape_of-log-in_default
-shape_of-log-in_default c = (all-safe (goal.at.shape_of-log-in_default c).After-left-1).log-long
+shape_of-log-in_default c = (all-safe (goal.at.shape_of-log-in_default c).At-loop-k).log-long
 
 pub shape_of-triples-in_default : goal.shape_of-triples-in_default
-shape_of-triples-in_default c = (all-safe (goal.at.shape_of-triples-in_default c).After-left-1).out-long ∙ out-same (goal.at.shape_of-triples-in_default c).After-max_shift-most
+shape_of-triples-in_default c = (all-safe (goal.at.shape_of-triples-in_default c).At-loop-k).out-long ∙ out-same (goal.at.shape_of-triples-in_default c).At-outer
 
 pub returns-in_default : goal.returns-in_default
 returns-in_default c = leaves (goal.at.returns-in_default c).At-loop-k _ (turn-none _ _ _ _ _ _ _ c.max_shift-most.ensures _ _ c.sample-at.ensures c.find_shift-f.ensures c.in_default.is)

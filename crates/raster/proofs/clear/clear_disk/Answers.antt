@@ -20,7 +20,7 @@ last_row c = last_within _ _ _ _ c.rows_of-rows.ensures c.requires.sides.high
 
 -- in a turn the row is one of the grid's, and its span lies in it
 row : (c : In-loop-j) → c.loop-j.j < c.args.g.ny
-row c = omega (arith, c.loop-j-test.true, last_row c.before.before.before)
+row c = omega (arith, c.loop-j-test.true, (let told : c.rows_of-rows.result.1 < c.args.g.ny = last_within _ _ _ _ c.rows_of-rows.ensures c.requires.sides.high in told))
 
 within : (c : After-chord-s) → InRow c.args.g.nx c.chord-s.result
 within c = chord_within _ _ _ _ _ c.chord-s.ensures c.requires.sides
@@ -49,10 +49,10 @@ pub loop-j-init : goal.loop-j-init
 loop-j-init c = (going_none _ _ _ _, refl)
 
 pub drop_span-n-requires : goal.drop_span-n-requires
-drop_span-n-requires c =     let g = c.args.g in record { inside = in_map _ g.ny g.nx _ _ c.loop-j.invariant.1 (row (goal.at.drop_span-n-requires c).In-loop-j) (long (goal.at.drop_span-n-requires c).At-loop-j) c.chord-s.result (within (goal.at.drop_span-n-requires c).After-chord-s); fair = fair (goal.at.drop_span-n-requires c).At-loop-j; }
+drop_span-n-requires c = let g = c.args.g in record { inside = in_map _ g.ny g.nx _ _ c.loop-j.invariant.1 (row (goal.at.drop_span-n-requires c).In-loop-j) (long (goal.at.drop_span-n-requires c).At-loop-j) c.chord-s.result (within (goal.at.drop_span-n-requires c).After-chord-s); fair = fair (goal.at.drop_span-n-requires c).At-loop-j }
 
 pub overflow_add-base : goal.overflow_add-base
-overflow_add-base c =    omega (arith, c.loop-j.invariant.1, row_below _ _ _ _ (row (goal.at.overflow_add-base c).In-loop-j) c.requires.long, c.well_formed)
+overflow_add-base c = omega (arith, c.loop-j.invariant.1, row_below _ _ _ _ (row (goal.at.overflow_add-base c).In-loop-j) c.requires.long, c.well_formed)
 
 pub overflow_step-j : goal.overflow_step-j
 overflow_step-j c = omega (arith, row (goal.at.overflow_step-j c).In-loop-j, c.well_formed.0)
@@ -61,10 +61,10 @@ pub loop-j-smaller : goal.loop-j-smaller
 loop-j-smaller c = omega (arith, c.loop-j-test.true)
 
 pub loop-j-preserved : goal.loop-j-preserved
-loop-j-preserved c =    let at = c.loop-j.invariant in (
-      going_more _ _ _ _ _ _ _ at.0 c.loop-j-test.true (disk-row-is _ _ _ c.args.r _ _ _ _ _ at.1 c.chord-s.ensures c.drop_span-n.ensures),
-      next_base _ _ _ at.1,
-    )
+loop-j-preserved c = let at = c.loop-j.invariant in (
+  going_more _ _ _ _ _ _ _ at.0 c.loop-j-test.true (disk-row-is _ _ _ c.args.r _ _ _ _ _ at.1 c.chord-s.ensures c.drop_span-n.ensures),
+  next_base _ _ _ at.1,
+)
 
 pub shape_of-map : goal.shape_of-map
 shape_of-map c = (left (goal.at.shape_of-map c).At-loop-j).long

@@ -26,7 +26,7 @@ pub overflow_add-n : goal.overflow_add-n
 overflow_add-n c = omega (arith, (left (goal.at.overflow_add-n c).At-loop-k).long, (fair_left _ _ c.requires.fair (left (goal.at.overflow_add-n c).At-loop-k)).most)
 
 pub loop-k-preserved : goal.loop-k-preserved
-loop-k-preserved c =    going_more _ _ _ _ _ _ _ c.loop-k.invariant c.loop-k-test.true
+loop-k-preserved c = going_more _ _ _ _ _ _ _ c.loop-k.invariant c.loop-k-test.true
     (⊎_elim
     (λ w. cl_eq w.1 w.2 ∙ drop-taken _ _ w.0.taken)
     (λ w. cl_eq w.1 w.2 ∙ drop_passed _ _ w.0.left)

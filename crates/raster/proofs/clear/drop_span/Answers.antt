@@ -14,7 +14,7 @@ pub overflow_add-base-in-Cols-2 : goal.overflow_add-base-in-Cols-2
 overflow_add-base-in-Cols-2 c = omega (arith, inside_cols _ _ _ _ _ c.in-Cols.is c.requires.inside)
 
 pub drop_run-requires : goal.drop_run-requires
-drop_run-requires c = record { to_in_bounds = omega (arith, inside_cols _ _ _ _ _ c.in-Cols.is c.requires.inside); fair = c.requires.fair; }
+drop_run-requires c = record { to_in_bounds = omega (arith, inside_cols _ _ _ _ _ c.in-Cols.is c.requires.inside); fair = c.requires.fair }
 
 pub returns-in-Empty : goal.returns-in-Empty
 returns-in-Empty c = span_none _ _ _ _ c.in-Empty.is

@@ -15,7 +15,7 @@ long c = ap length c.loop-k.invariant.is ∙ rim-long c.args.n 0 c.loop-k.k c.ar
 
 -- a sample's two entries are in the table
 within : (c : In-loop-k) → 2 * c.loop-k.k + 1 < length c.loop-k.rim
-within c = omega (arith, long c.before, c.requires, c.loop-k-test.true)
+within c = omega (arith, (let told : length c.loop-k.rim ≡ length c.args.rim.now = ap length c.loop-k.invariant.is ∙ rim-long c.args.n 0 c.loop-k.k c.args.rim.now in told), c.requires, c.loop-k-test.true)
 
 pub loop-k-init : goal.loop-k-init
 loop-k-init c = going_none _ _ _ _

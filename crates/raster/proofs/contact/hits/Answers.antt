@@ -51,7 +51,7 @@ pub overflow_add-h : goal.overflow_add-h
 overflow_add-h c = omega (arith, most (goal.at.overflow_add-h c).At-loop-sample)
 
 pub loop-sample-preserved : goal.loop-sample-preserved
-loop-sample-preserved c =    let k = c.loop-sample.sample in
+loop-sample-preserved c = let k = c.loop-sample.sample in
     let e =
     rim-point c.args.c c.args.r c.args.n k _ _ _ _ (c.requires.rim.x k c.loop-sample-test.true)
     (c.requires.rim.y k c.loop-sample-test.true) c.scale.ensures c.add.ensures in

@@ -10,4 +10,4 @@ pub returns-then-nx-k0 : goal.returns-then-nx-k0
 returns-then-nx-k0 c = between-past _ _ _ c.requires.k0_bound c.requires.k1_bound c.if-k1-k0.false c.if-nx-k0.true
 
 pub returns : goal.returns
-returns c =    between_are _ _ _ c.requires.k0_bound c.requires.k1_bound c.if-k1-k0.false c.if-nx-k0.false _ c.at_most_last.ensures
+returns c = between_are _ _ _ c.requires.k0_bound c.requires.k1_bound c.if-k1-k0.false c.if-nx-k0.false _ c.at_most_last.ensures

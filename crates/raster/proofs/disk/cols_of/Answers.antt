@@ -16,5 +16,5 @@ pub returns-then-float_of-i0 : goal.returns-then-float_of-i0
 returns-then-float_of-i0 c = cols_past _ _ _ c.if-i1.false c.if-i1-i0.false _ c.float_of.ensures c.if-float_of-i0.true
 
 pub returns : goal.returns
-returns c =    cols_are _ _ _ c.if-i1.false c.if-i1-i0.false _ c.float_of.ensures c.if-float_of-i0.false
+returns c = cols_are _ _ _ c.if-i1.false c.if-i1-i0.false _ c.float_of.ensures c.if-float_of-i0.false
     _ _ _ c.sat_u64.ensures c.sat_u64-2.ensures c.at_most_last.ensures

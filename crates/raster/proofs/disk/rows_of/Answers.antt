@@ -4,5 +4,5 @@ use borrow.Author.Rules.{rules}
 use Rattle.raster.proofs.disk.rows_of.Goals as goal
 
 pub returns : goal.returns
-returns c =    rows_are _ _ _ _ _ _ _ _ _ c.place.ensures c.first_from-j0.ensures c.place-2.ensures c.floor-j1.ensures
+returns c = rows_are _ _ _ _ _ _ _ _ _ c.place.ensures c.first_from-j0.ensures c.place-2.ensures c.floor-j1.ensures
     c.sat_u64.ensures c.last_row.ensures

@@ -6,14 +6,14 @@ use borrow.Author.Rules.{rules}
 use Rattle.raster.proofs.grid.cell_of.Goals as goal
 
 pub returns-then-j-g : goal.returns-then-j-g
-returns-then-j-g c =    let s = c.requires in
+returns-then-j-g c = let s = c.requires in
     let h = c.if-i-g.true in
     let k = c.if-j-g.true in
     found_at _ _ (omega (arith, s.nx_bound)) (omega (arith, s.ny_bound)) c.if-fx.true c.if-fy.true _ _
     (low_index _ _ _ s.nx_bound c.sat_u32-i.ensures h) h (low_index _ _ _ s.ny_bound c.sat_u32-j.ensures k) k
 
 pub returns-else-j-g : goal.returns-else-j-g
-returns-else-j-g c =    let s = c.requires in
+returns-else-j-g c = let s = c.requires in
     let h = c.if-i-g.true in
     past_row _ _ _ _ (low_index _ _ _ s.nx_bound c.sat_u32-i.ensures h) h refl (high_index _ _ _ c.sat_u32-j.ensures c.if-j-g.false)
 

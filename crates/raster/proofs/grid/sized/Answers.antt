@@ -6,7 +6,7 @@ use borrow.Author.Rules.{rules}
 use Rattle.raster.proofs.grid.sized.Goals as goal
 
 pub overflow_mul-ny : goal.overflow_mul-ny
-overflow_mul-ny c =    let a : c.reach-h.result + 1 ≤ 4096 = omega (arith, c.if-h-lt4096.true) in
+overflow_mul-ny c = let a : c.reach-h.result + 1 ≤ 4096 = omega (arith, c.if-h-lt4096.true) in
     let b : c.reach-w.result + 1 ≤ 4096 = omega (arith, c.if-w-lt4096.true) in
     omega (arith, few-cells _ _ a b)
 

@@ -23,7 +23,7 @@ pub bounds-map-k : goal.bounds-map-k
 bounds-map-k c = omega (arith, long (goal.at.bounds-map-k c).At-loop-entry, c.index_of-k.ensures, c.cell_in.ensures, c.requires.cell c.loop-entry.entry c.loop-entry-test.true)
 
 pub loop-entry-preserved : goal.loop-entry-preserved
-loop-entry-preserved c =    going_more _ _ _ _ _ _ _ c.loop-entry.invariant c.loop-entry-test.true (ap (λ (k : ℕ). set c.loop-entry.map k 0) (c.index_of-k.ensures ∙ c.cell_in.ensures))
+loop-entry-preserved c = going_more _ _ _ _ _ _ _ c.loop-entry.invariant c.loop-entry-test.true (ap (λ (k : ℕ). set c.loop-entry.map k 0) (c.index_of-k.ensures ∙ c.cell_in.ensures))
 
 pub shape_of-map : goal.shape_of-map
 shape_of-map c = long (goal.at.shape_of-map c).At-loop-entry

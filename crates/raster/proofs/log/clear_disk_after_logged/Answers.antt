@@ -28,7 +28,7 @@ ready c = ready-kept _ _ c.requires.ready (kept c)
 
 -- in a turn the row is one of the grid's, and the map is still long enough
 row : (c : In-loop-j) → c.loop-j.j < c.args.g.ny
-row c = omega (arith, c.loop-j-test.true, last_row c.before.before.before)
+row c = omega (arith, c.loop-j-test.true, (let told : c.rows_of-rows.result.1 < c.args.g.ny = last_within _ _ _ _ c.rows_of-rows.ensures c.requires.over.sides.high in told))
 
 long : (c : At-loop-j) → c.args.g.ny * c.args.g.nx ≤ length c.loop-j.map
 long c = omega (arith, c.requires.over.long, (kept c).cells-long)
@@ -50,14 +50,14 @@ pub loop-j-init : goal.loop-j-init
 loop-j-init c = (going_none _ _ _ _, refl)
 
 pub clear_span_logged-n-requires : goal.clear_span_logged-n-requires
-clear_span_logged-n-requires c =     let g = c.args.g in record { inside = in_map _ g.ny g.nx _ _ c.loop-j.invariant.1 (row (goal.at.clear_span_logged-n-requires c).In-loop-j) (long (goal.at.clear_span_logged-n-requires c).At-loop-j) c.crescent_row-p.result.left (both (goal.at.clear_span_logged-n-requires c).After-crescent_row-p).0; ready = ready (goal.at.clear_span_logged-n-requires c).At-loop-j; }
+clear_span_logged-n-requires c = let g = c.args.g in record { inside = in_map _ g.ny g.nx _ _ c.loop-j.invariant.1 (row (goal.at.clear_span_logged-n-requires c).In-loop-j) (long (goal.at.clear_span_logged-n-requires c).At-loop-j) c.crescent_row-p.result.left (both (goal.at.clear_span_logged-n-requires c).After-crescent_row-p).0; ready = ready (goal.at.clear_span_logged-n-requires c).At-loop-j }
 
 pub clear_span_logged-n-requires-in-loop-j : goal.clear_span_logged-n-requires-in-loop-j
-clear_span_logged-n-requires-in-loop-j c =     let e = c.clear_span_logged-n.ensures in
-    let g = c.args.g in record { inside = in_map _ g.ny g.nx _ _ c.loop-j.invariant.1 (row (goal.at.clear_span_logged-n-requires-in-loop-j c).In-loop-j) (le_same (long (goal.at.clear_span_logged-n-requires-in-loop-j c).At-loop-j) (span_kept _ _ _ _ (ready (goal.at.clear_span_logged-n-requires-in-loop-j c).At-loop-j) e).cells-long) c.crescent_row-p.result.right (both (goal.at.clear_span_logged-n-requires-in-loop-j c).After-crescent_row-p).1; ready = ready-kept _ _ (ready (goal.at.clear_span_logged-n-requires-in-loop-j c).At-loop-j) (span_kept _ _ _ _ (ready (goal.at.clear_span_logged-n-requires-in-loop-j c).At-loop-j) e); }
+clear_span_logged-n-requires-in-loop-j c = let e = c.clear_span_logged-n.ensures in
+    let g = c.args.g in record { inside = in_map _ g.ny g.nx _ _ c.loop-j.invariant.1 (row (goal.at.clear_span_logged-n-requires-in-loop-j c).In-loop-j) (le_same (long (goal.at.clear_span_logged-n-requires-in-loop-j c).At-loop-j) (span_kept _ _ _ _ (ready (goal.at.clear_span_logged-n-requires-in-loop-j c).At-loop-j) e).cells-long) c.crescent_row-p.result.right (both (goal.at.clear_span_logged-n-requires-in-loop-j c).After-crescent_row-p).1; ready = ready-kept _ _ (ready (goal.at.clear_span_logged-n-requires-in-loop-j c).At-loop-j) (span_kept _ _ _ _ (ready (goal.at.clear_span_logged-n-requires-in-loop-j c).At-loop-j) e) }
 
 pub overflow_add-base : goal.overflow_add-base
-overflow_add-base c =    omega (arith, c.loop-j.invariant.1, row_below _ _ _ _ (row (goal.at.overflow_add-base c).In-loop-j) c.requires.over.long, c.well_formed)
+overflow_add-base c = omega (arith, c.loop-j.invariant.1, row_below _ _ _ _ (row (goal.at.overflow_add-base c).In-loop-j) c.requires.over.long, c.well_formed)
 
 pub overflow_step-j : goal.overflow_step-j
 overflow_step-j c = omega (arith, row (goal.at.overflow_step-j c).In-loop-j, c.well_formed.0)
@@ -66,11 +66,11 @@ pub loop-j-smaller : goal.loop-j-smaller
 loop-j-smaller c = omega (arith, c.loop-j-test.true)
 
 pub loop-j-preserved : goal.loop-j-preserved
-loop-j-preserved c =    let at = c.loop-j.invariant in (
-      going_more _ _ _ _ _ _ _ at.0 c.loop-j-test.true
-          (crescent-row-is _ _ _ _ c.args.r _ _ _ _ _ _ at.1 c.crescent_row-p.ensures c.clear_span_logged-n.ensures c.clear_span_logged-n-in-loop-j.ensures),
-      next_base _ _ _ at.1,
-    )
+loop-j-preserved c = let at = c.loop-j.invariant in (
+  going_more _ _ _ _ _ _ _ at.0 c.loop-j-test.true
+      (crescent-row-is _ _ _ _ c.args.r _ _ _ _ _ _ at.1 c.crescent_row-p.ensures c.clear_span_logged-n.ensures c.clear_span_logged-n-in-loop-j.ensures),
+  next_base _ _ _ at.1,
+)
 
 pub shape_of-map : goal.shape_of-map
 shape_of-map c = (kept (goal.at.shape_of-map c).At-loop-j).cells-long

@@ -17,7 +17,7 @@ kept : (c : At-loop-k)
 kept c = going_kept _ _ _ _ _ c.requires.ready c.loop-k.invariant
 
 room : (c : Then-map-k-eq1) → c.loop-k.n < length c.loop-k.log
-room c = room-left _ _ c.requires.ready (kept c.before.before.before) _ c.if-map-k-eq1.true
+room c = room-left _ _ c.requires.ready ((let told : Kept (st c.args.map.now c.args.log.now c.args.count) (st c.loop-k.map c.loop-k.log c.loop-k.n) = going_kept _ _ _ _ _ c.requires.ready c.loop-k.invariant in told)) _ c.if-map-k-eq1.true
 
 pub loop-k-init : goal.loop-k-init
 loop-k-init c = going_none _ _ _ _
@@ -41,7 +41,7 @@ pub overflow_add-n : goal.overflow_add-n
 overflow_add-n c = omega (arith, room (goal.at.overflow_add-n c).Then-map-k-eq1, (kept (goal.at.overflow_add-n c).At-loop-k).log-long)
 
 pub loop-k-preserved : goal.loop-k-preserved
-loop-k-preserved c =    going_more _ _ _ _ _ _ _ c.loop-k.invariant c.loop-k-test.true
+loop-k-preserved c = going_more _ _ _ _ _ _ _ c.loop-k.invariant c.loop-k-test.true
     (⊎_elim
     (λ w. st_eq w.3 (w.4 ∙ ap (λ (v : ℕ). set c.loop-k.log c.loop-k.n v) (w.2.ensures ∙ w.1.ensures)) w.5 ∙ cell-taken _ _ w.0.taken)
     (λ w. st_eq w.1 w.2 w.3 ∙ cell-left _ _ w.0.left)

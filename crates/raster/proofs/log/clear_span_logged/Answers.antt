@@ -14,7 +14,7 @@ pub overflow_add-base-in-Cols-2 : goal.overflow_add-base-in-Cols-2
 overflow_add-base-in-Cols-2 c = omega (arith, inside_cols _ _ _ _ _ c.in-Cols.is c.requires.inside)
 
 pub clear_run-requires : goal.clear_run-requires
-clear_run-requires c = record { to_in_bounds = omega (arith, inside_cols _ _ _ _ _ c.in-Cols.is c.requires.inside); ready = c.requires.ready; }
+clear_run-requires c = record { to_in_bounds = omega (arith, inside_cols _ _ _ _ _ c.in-Cols.is c.requires.inside); ready = c.requires.ready }
 
 pub returns-in-Empty : goal.returns-in-Empty
 returns-in-Empty c = span_none _ _ _ _ c.in-Empty.is

@@ -23,7 +23,7 @@ pub bounds-map-k : goal.bounds-map-k
 bounds-map-k c = omega (arith, long (goal.at.bounds-map-k c).At-loop-i, c.index_of-k.ensures, c.cell_in.ensures, c.requires.cell c.loop-i.i c.loop-i-test.true)
 
 pub loop-i-preserved : goal.loop-i-preserved
-loop-i-preserved c =    going_more _ _ _ _ _ _ _ c.loop-i.invariant c.loop-i-test.true (ap (λ (k : ℕ). set c.loop-i.map k 1) (c.index_of-k.ensures ∙ c.cell_in.ensures))
+loop-i-preserved c = going_more _ _ _ _ _ _ _ c.loop-i.invariant c.loop-i-test.true (ap (λ (k : ℕ). set c.loop-i.map k 1) (c.index_of-k.ensures ∙ c.cell_in.ensures))
 
 pub shape_of-map : goal.shape_of-map
 shape_of-map c = long (goal.at.shape_of-map c).At-loop-i

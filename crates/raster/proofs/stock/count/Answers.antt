@@ -17,13 +17,13 @@ pub overflow_add-standing : goal.overflow_add-standing
 overflow_add-standing c = omega (arith, count_most c.args.map.now c.loop-k.k c.loop-k.standing c.loop-k.invariant.1)
 
 pub loop-k-preserved : goal.loop-k-preserved
-loop-k-preserved c =    let more : c.loop-k.k < length c.args.map.now = c.loop-k-test.true in (
-      omega arith,
-      ⊎_elim
-          (λ w. w.1 ∙ count-one _ _ _ more c.loop-k.invariant.1 w.0.taken)
-          (λ w. w.1 ∙ count_none _ _ _ more c.loop-k.invariant.1 w.0.left)
-          c.if-map-k-eq1.branch,
-    )
+loop-k-preserved c = let more : c.loop-k.k < length c.args.map.now = c.loop-k-test.true in (
+  omega arith,
+  ⊎_elim
+      (λ w. w.1 ∙ count-one _ _ _ more c.loop-k.invariant.1 w.0.taken)
+      (λ w. w.1 ∙ count_none _ _ _ more c.loop-k.invariant.1 w.0.left)
+      c.if-map-k-eq1.branch,
+)
 
 pub returns : goal.returns
 returns c = count-all _ _ _ c.loop-k-test.false c.loop-k.invariant.1

@@ -19,7 +19,7 @@ last_row c = last_within _ _ _ _ c.rows_of-rows.ensures c.requires.sides.high
 
 -- in a turn the row is one of the grid's, and its span lies in it
 row : (c : In-loop-j) → c.loop-j.j < c.args.g.ny
-row c = omega (arith, c.loop-j-test.true, last_row c.before.before.before)
+row c = omega (arith, c.loop-j-test.true, (let told : c.rows_of-rows.result.1 < c.args.g.ny = last_within _ _ _ _ c.rows_of-rows.ensures c.requires.sides.high in told))
 
 within : (c : After-chord-s) → InRow c.args.g.nx c.chord-s.result
 within c = chord_within _ _ _ _ _ c.chord-s.ensures c.requires.sides
@@ -38,10 +38,10 @@ pub loop-j-init : goal.loop-j-init
 loop-j-init c = (going_none _ _ _ _, refl, omega arith)
 
 pub count_span-n-requires : goal.count_span-n-requires
-count_span-n-requires c =     let at = c.loop-j.invariant in record { inside = in_map _ c.args.g.ny c.args.g.nx _ _ at.1 (row (goal.at.count_span-n-requires c).In-loop-j) c.requires.long c.chord-s.result (within (goal.at.count_span-n-requires c).After-chord-s); count_le_base = at.2; }
+count_span-n-requires c = let at = c.loop-j.invariant in record { inside = in_map _ c.args.g.ny c.args.g.nx _ _ at.1 (row (goal.at.count_span-n-requires c).In-loop-j) c.requires.long c.chord-s.result (within (goal.at.count_span-n-requires c).After-chord-s); count_le_base = at.2 }
 
 pub overflow_add-base : goal.overflow_add-base
-overflow_add-base c =    omega (arith, c.loop-j.invariant.1, row_below _ _ _ _ (row (goal.at.overflow_add-base c).In-loop-j) c.requires.long, c.well_formed)
+overflow_add-base c = omega (arith, c.loop-j.invariant.1, row_below _ _ _ _ (row (goal.at.overflow_add-base c).In-loop-j) c.requires.long, c.well_formed)
 
 pub overflow_step-j : goal.overflow_step-j
 overflow_step-j c = omega (arith, row (goal.at.overflow_step-j c).In-loop-j, c.well_formed.0)
@@ -50,11 +50,11 @@ pub loop-j-smaller : goal.loop-j-smaller
 loop-j-smaller c = omega (arith, c.loop-j-test.true)
 
 pub loop-j-preserved : goal.loop-j-preserved
-loop-j-preserved c =    let at = c.loop-j.invariant in (
-      going_more _ _ _ _ _ _ _ at.0 c.loop-j-test.true (disk-row-is _ _ _ c.args.r _ _ _ _ _ at.1 c.chord-s.ensures c.count_span-n.ensures),
-      next_base _ _ _ at.1,
-      row-most _ _ _ _ _ _ (within (goal.at.loop-j-preserved c).After-chord-s) at.2 c.count_span-n.ensures,
-    )
+loop-j-preserved c = let at = c.loop-j.invariant in (
+  going_more _ _ _ _ _ _ _ at.0 c.loop-j-test.true (disk-row-is _ _ _ c.args.r _ _ _ _ _ at.1 c.chord-s.ensures c.count_span-n.ensures),
+  next_base _ _ _ at.1,
+  row-most _ _ _ _ _ _ (within (goal.at.loop-j-preserved c).After-chord-s) at.2 c.count_span-n.ensures,
+)
 
 pub returns : goal.returns
 unfolding count_disk

@@ -20,7 +20,7 @@ pub overflow_add-n : goal.overflow_add-n
 overflow_add-n c = omega (arith, most (goal.at.overflow_add-n c).At-loop-k)
 
 pub loop-k-preserved : goal.loop-k-preserved
-loop-k-preserved c =    going_more _ _ _ _ _ _ _ c.loop-k.invariant c.loop-k-test.true
+loop-k-preserved c = going_more _ _ _ _ _ _ _ c.loop-k.invariant c.loop-k-test.true
     (⊎_elim
     (λ w. w.1 ∙ tally-one _ _ _ w.0.taken)
     (λ w. w.1 ∙ tally-none _ _ _ w.0.left)

@@ -20,7 +20,7 @@ pub bounds-map-k : goal.bounds-map-k
 bounds-map-k c = omega (arith, long (goal.at.bounds-map-k c).At-loop-k)
 
 pub loop-k-preserved : goal.loop-k-preserved
-loop-k-preserved c =    going_more _ _ _ _ _ _ _ c.loop-k.invariant c.loop-k-test.true
+loop-k-preserved c = going_more _ _ _ _ _ _ _ c.loop-k.invariant c.loop-k-test.true
     (⊎_elim
     (λ w. w.1 ∙ kept_not _ _ _ w.0.taken)
     (λ w. w.1 ∙ kept-one _ _ _ w.0.left)

@@ -22,7 +22,7 @@ only c = going_only 0 _ _ _ c.args.b.now (omega (arith, c.allowed-a.ensures, c.c
 -- so that the byte inside is what it was
 byte : (c : In-loop-k) → get_or c.loop-k.b (c.inside-i.result + c.loop-k.k) 0 ≡ get_or (run 5 c.cells-n.result c.args.b.now) c.loop-k.k 0
 byte c =
-    read-run c.cells-n.result 1 _ c.allowed-a.ensures c.args.b.now (omega (arith, c.cells-n.ensures, c.requires.s_in_bounds)) c.loop-k.b (only c.before) 5 _ (λ z. omega arith) c.inside-i.ensures c.loop-k.k 0 c.loop-k-test.true
+    read-run c.cells-n.result 1 _ c.allowed-a.ensures c.args.b.now (omega (arith, c.cells-n.ensures, c.requires.s_in_bounds)) c.loop-k.b ((let told : let a = c.allowed-a.result in Only a (a + c.cells-n.result) c.args.b.now c.loop-k.b = going_only 0 _ _ _ c.args.b.now (omega (arith, c.allowed-a.ensures, c.cells-n.ensures, c.requires.s_in_bounds)) c.loop-k.b c.loop-k.k c.loop-k.invariant.0 in told)) 5 _ (λ z. omega arith) c.inside-i.ensures c.loop-k.k 0 c.loop-k-test.true
 
 pub cells-n-requires : goal.cells-n-requires
 cells-n-requires c = c.requires.placed.sides

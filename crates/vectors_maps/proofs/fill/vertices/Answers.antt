@@ -14,10 +14,10 @@ pub loop-k-init : goal.loop-k-init
 loop-k-init c = going_none _ _ _ _
 
 pub offset_bounds-vs-k : goal.offset_bounds-vs-k
-offset_bounds-vs-k c = omega (arith, long (goal.at.offset_bounds-vs-k c).In-loop-k, c.requires)
+offset_bounds-vs-k c = omega (arith, long (goal.at.offset_bounds-vs-k c).At-loop-k, c.requires)
 
 pub bounds-vs-k : goal.bounds-vs-k
-bounds-vs-k c = omega (arith, long (goal.at.bounds-vs-k c).In-loop-k, c.requires)
+bounds-vs-k c = omega (arith, long (goal.at.bounds-vs-k c).At-loop-k, c.requires)
 
 pub loop-k-preserved : goal.loop-k-preserved
 loop-k-preserved c = going_more _ _ _ _ _ _ _ c.loop-k.invariant c.loop-k-test.true (ap (set c.loop-k.vs c.loop-k.k) c.float.ensures)
