@@ -15,7 +15,7 @@ fill-requires c =     let p = c.requires in
     let m = c.passing-s.ensures in record { over = (pass_usable _ _ _ _ _ _ _ _ _ m.0 m.1 _ _ _ p.usable).over; in_bounds = omega (arith, tiles_long); }
 
 pub slice_bounds-simulate-end : goal.slice_bounds-simulate-end
-slice_bounds-simulate-end c = sym (c.fill.auto.tiles.1.0 ∙ tiles_long)
+slice_bounds-simulate-end c = sym (c.fill.auto.tiles ∙ tiles_long)
 
 pub simulate-t-requires : goal.simulate-t-requires
 simulate-t-requires c =     let p = c.requires in

@@ -13,7 +13,7 @@ pub fill-requires : goal.fill-requires
 fill-requires c = record { over = over-grid _ _ _ _ _ _ c.made-s.ensures.0 _ c.requires.over_2; in_bounds = omega (arith, tiles_long); }
 
 pub slice_bounds-link_clear-end : goal.slice_bounds-link_clear-end
-slice_bounds-link_clear-end c = sym (c.fill.auto.tiles.1.0 ∙ tiles_long)
+slice_bounds-link_clear-end c = sym (c.fill.auto.tiles ∙ tiles_long)
 
 pub link_clear-requires : goal.link_clear-requires
 link_clear-requires c =     let m = c.made-s in record { walls = walls_of_lem _ _ _ _ _ _ m.ensures.0 _ _ _ m.ensures.1 c.requires.over c.requires.held; over = over-grid _ _ _ _ _ _ m.ensures.0 _ c.requires.over_2; tiled = c.fill.ensures; tables = tables_made _ _ _ _ _ _ m.ensures.0 _ c.requires.tables; }

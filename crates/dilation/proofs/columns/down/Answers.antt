@@ -32,7 +32,7 @@ loop-j-preserved c =    let v = c.loop-j.invariant in
     let t = c.loop-j-test.true in
     let u = c.down_row in
     let e = u.ensures in
-    (down_more _ _ c.args.w c.requires.on c.loop-j.j v.4 t c.loop-j.run v.1 _ _ v.0 e.wrote_2, runs_more _ _ c.args.w c.requires.on c.loop-j.j v.4 t c.loop-j.run v.1 _ e.wrote, u.auto.work.1.1.1.0 ∙ v.2, u.auto.work.1.1.0 ∙ v.3, omega (arith, v.4))
+    (down_more _ _ c.args.w c.requires.on c.loop-j.j v.4 t c.loop-j.run v.1 _ _ v.0 e.wrote_2, runs_more _ _ c.args.w c.requires.on c.loop-j.j v.4 t c.loop-j.run v.1 _ e.wrote, u.auto.work ∙ v.2, u.auto.work ∙ v.3, omega (arith, v.4))
 
 pub returns : goal.returns
 returns c = let v = c.loop-j.invariant in (v.2, down-end _ _ c.args.w _ _ _ v.0 c.loop-j-test.false)

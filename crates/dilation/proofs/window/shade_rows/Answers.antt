@@ -47,7 +47,7 @@ pub tell_row-requires : goal.tell_row-requires
 tell_row-requires c =     let p = c.requires in
     let t = c.loop-j-test.true in
     let u = c.up_row in
-    let e = u.ensures in record { wide = wide_then _ _ c.args.w p.on (c.loop-j.j - 1) (omega arith) (omega (arith, c.loop-j.invariant.3)) _ _ _ _ _ _ _ (told (goal.at.tell_row-requires c).At-loop-j t) e _ _ p.bounded.0 (u.auto.run.1.1.0 ∙ c.loop-j.invariant.2); wide_2 = wide_then _ _ c.args.w p.on (c.loop-j.j - 1) (omega arith) (omega (arith, c.loop-j.invariant.3)) _ _ _ _ _ _ _ (told (goal.at.tell_row-requires c).At-loop-j t) e _ _ p.bounded.1 (u.auto.run.1.1.0 ∙ c.loop-j.invariant.2); n_in_bounds = (omega (arith, row (goal.at.tell_row-requires c).At-loop-j t, p.on.wide, p.on.order, p.nx_in_bounds.1, long (goal.at.tell_row-requires c).At-loop-j), p.bounded.0, p.bounded.1); }
+    let e = u.ensures in record { wide = wide_then _ _ c.args.w p.on (c.loop-j.j - 1) (omega arith) (omega (arith, c.loop-j.invariant.3)) _ _ _ _ _ _ _ (told (goal.at.tell_row-requires c).At-loop-j t) e _ _ p.bounded.0 (u.auto.run ∙ c.loop-j.invariant.2); wide_2 = wide_then _ _ c.args.w p.on (c.loop-j.j - 1) (omega arith) (omega (arith, c.loop-j.invariant.3)) _ _ _ _ _ _ _ (told (goal.at.tell_row-requires c).At-loop-j t) e _ _ p.bounded.1 (u.auto.run ∙ c.loop-j.invariant.2); n_in_bounds = (omega (arith, row (goal.at.tell_row-requires c).At-loop-j t, p.on.wide, p.on.order, p.nx_in_bounds.1, long (goal.at.tell_row-requires c).At-loop-j), p.bounded.0, p.bounded.1); }
 
 pub loop-j-preserved : goal.loop-j-preserved
 loop-j-preserved c =    let p = c.requires in
@@ -65,8 +65,8 @@ loop-j-preserved c =    let p = c.requires in
       by_cases (eqb (j % c.args.step) c.args.phase || eqb (j + 1) c.args.w.hi)
           (λ y. shading_told _ _ c.args.w p.on j lo hi _ _ near beyond _ _ _ s e _ _ _ p.bounded.0 p.bounded.1 (q.row_told y))
           (λ y. shading_skip _ _ c.args.w p.on j lo hi _ _ near beyond _ _ _ s e _ (q.work_unchanged y) y),
-      r.auto.work.1.1.1.1.1.0 ∙ c.loop-j.invariant.1,
-      u.auto.run.1.1.0 ∙ c.loop-j.invariant.2,
+      r.auto.work ∙ c.loop-j.invariant.1,
+      u.auto.run ∙ c.loop-j.invariant.2,
       omega (arith, c.loop-j.invariant.3),
     )
 

@@ -12,26 +12,23 @@ use Rattle.distance.proofs.rows.fill.Invariants.{Filling}
 
 -- the parabola of this turn, as it was on entry and as it is read
 module _ (c : In-loop-k) where
-  abbrev x : tie.Start invariant-loop decreases-loop
-  x = c.before.before.before
-
   abbrev work : List ℕ
   work = c.loop-k.work
 
   abbrev i : ℕ
-  i = x.args.s + 3 * (c.loop-k.k - 1)
+  i = c.args.s + 3 * (c.loop-k.k - 1)
 
-  same_at : (d : ℕ) → get_or work (i + d) 0 ≡ get_or x.args.work.now (i + d) 0
-  same_at d = c.loop-k.invariant.same (i + d) (omega (arith, x.pre.0))
+  same_at : (d : ℕ) → get_or work (i + d) 0 ≡ get_or c.args.work.now (i + d) 0
+  same_at d = c.loop-k.invariant.same (i + d) (omega (arith, c.requires.nx_bound))
 
-  same-column : get_or work i 0 ≡ get_or x.args.work.now i 0
-  same-column = c.loop-k.invariant.same i (omega (arith, x.pre.0))
+  same-column : get_or work i 0 ≡ get_or c.args.work.now i 0
+  same-column = c.loop-k.invariant.same i (omega (arith, c.requires.nx_bound))
 
-  entry : Entry work x.args.s x.args.nx x.args.nx (c.loop-k.k - 1)
-  entry = entry-same x.args.work.now work x.args.s x.args.nx x.args.nx (c.loop-k.k - 1) same-column (same_at 1) (same_at 2) (x.pre.1.1.0.entry _ (omega arith))
+  entry : Entry work c.args.s c.args.nx c.args.nx (c.loop-k.k - 1)
+  entry = entry-same c.args.work.now work c.args.s c.args.nx c.args.nx (c.loop-k.k - 1) same-column (same_at 1) (same_at 2) (c.requires.sound.entry _ (omega arith))
 
-  ends : c.loop-k.e ≤ x.args.nx
-  ends = edge_le _ _ _ _ _ _ x.pre.1.1.0 c.loop-k.invariant.edge
+  ends : c.loop-k.e ≤ c.args.nx
+  ends = edge_le _ _ _ _ _ _ c.requires.sound c.loop-k.invariant.edge
 
 pub loop-k-init : goal.loop-k-init
 loop-k-init c = record { high = omega arith; long = refl; edge = record { inside = λ a. absurd (let z : ⊥ = omega arith in z); outside = λ a. refl }; same = λ c a. refl; filled = filled_none _ _ _ _ _ }
@@ -52,7 +49,7 @@ loop-k-preserved c = let l = c.loop-k in
       high = omega (arith, l.invariant.high);
       long = p.auto.work ∙ l.invariant.long;
       edge = record { inside = λ a. same_at (goal.at.loop-k-preserved c).In-loop-k 2; outside = λ a. absurd (let z : ⊥ = omega (arith, l.invariant.high, c.loop-k-test.true) in z) };
-      same = λ c a. p.ensures.right (goal.at.loop-k-preserved c).After-slice_known-in-loop-k-4-1 (omega (arith, ends (goal.at.loop-k-preserved c).In-loop-k)) (omega (arith, e.inside)) ∙ l.invariant.same (goal.at.loop-k-preserved c).After-slice_known-in-loop-k-4-1 a;
+      same = λ x a. p.ensures.right x (omega (arith, ends (goal.at.loop-k-preserved c).In-loop-k)) (omega (arith, e.inside)) ∙ l.invariant.same x a;
       filled = filled_more _ _ _ _ (l.k - 1) _ _ _ _ l.invariant.filled (omega (arith, l.invariant.high, c.loop-k-test.true)) (edge_same (let z : l.k ≡ l.k - 1 + 1 = omega (arith, c.loop-k-test.true) in z) l.invariant.edge) _ _ _ (same-column (goal.at.loop-k-preserved c).In-loop-k) (same_at (goal.at.loop-k-preserved c).In-loop-k 1) (same_at (goal.at.loop-k-preserved c).In-loop-k 2) p.ensures;
     }
 

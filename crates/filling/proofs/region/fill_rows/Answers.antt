@@ -37,7 +37,7 @@ loop-j-smaller c = omega (arith, c.loop-j-test.true)
 pub loop-j-preserved : goal.loop-j-preserved
 loop-j-preserved c =    let l = c.loop-j in
     let f = c.fill_row in
-    (going_more _ _ _ _ _ _ _ l.invariant.0 c.loop-j-test.true f.ensures.0, f.ensures.1.0, f.ensures.1.1, f.auto.row.1.1.1.1.1.1.0 ∙ l.invariant.3, f.auto.row.1.1.1.1.1.1.1.0 ∙ l.invariant.4)
+    (going_more _ _ _ _ _ _ _ l.invariant.0 c.loop-j-test.true f.ensures.0, f.ensures.1.0, f.ensures.1.1, f.auto.cover ∙ l.invariant.3, f.auto.cover ∙ l.invariant.4)
 
 pub shape_of-map : goal.shape_of-map
 shape_of-map c = long (goal.at.shape_of-map c).At-loop-j

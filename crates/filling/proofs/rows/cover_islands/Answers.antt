@@ -48,8 +48,8 @@ loop-l-preserved c =    let s = c.args in
     let g = region s.region.at s.region.first s.region.loops in (
       omega arith,
       ap (λ (k : ℕ). k + z.result) l.invariant.1 ∙ ap (λ (k : ℕ). start_of s.lens.now g l.l + k) z.ensures ∙ start-next s.lens.now g l.l,
-      f.auto.cover.1.1.1.1.1.0 ∙ l.invariant.2,
-      f.auto.cover.1.1.1.1.1.1.0 ∙ l.invariant.3,
+      f.auto.cover ∙ l.invariant.2,
+      f.auto.cover ∙ l.invariant.3,
       omega (arith, c.loop-l-test.true),
       islands_more _ _ l.l _ _ _ _ _ _ _ l.invariant.0 (λ i. inside_is _ _ g _ l.l _ _ _ l.invariant.1 z.ensures refl) l.invariant.5 f.ensures,
     )

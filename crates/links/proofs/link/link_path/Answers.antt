@@ -16,7 +16,7 @@ pub fill-requires : goal.fill-requires
 fill-requires c = record { over = c.requires.fitted.over; in_bounds = omega (arith, tiles_long); }
 
 pub slice_bounds-clear-end : goal.slice_bounds-clear-end
-slice_bounds-clear-end c = sym (c.fill.auto.tiles.1.0 ∙ tiles_long)
+slice_bounds-clear-end c = sym (c.fill.auto.tiles ∙ tiles_long)
 
 pub clear-requires : goal.clear-requires
 clear-requires c = record { fitted = c.requires.fitted; tiled = c.fill.ensures; }
@@ -49,7 +49,7 @@ pub lattice_of-l-requires : goal.lattice_of-l-requires
 lattice_of-l-requires c =  let a = on-grid-at _ _ _ _ _ c.cell_of-x.ensures c.in-At.is in let b = on-grid-at _ _ _ _ _ c.cell_of-z.ensures c.in-At-z.is in record { sides = c.requires.fitted.over.sides; i_lt_nx = a.0; j_lt_ny = a.1; p_lt_nx = b.0; q_lt_ny = b.1; }
 
 pub slice_bounds-around-end : goal.slice_bounds-around-end
-slice_bounds-around-end c = sym (c.fill.auto.tiles.1.0 ∙ tiles_long)
+slice_bounds-around-end c = sym (c.fill.auto.tiles ∙ tiles_long)
 
 pub around-requires : goal.around-requires
 around-requires c =  let a = on-grid-at _ _ _ _ _ c.cell_of-x.ensures c.in-At.is in let b = on-grid-at _ _ _ _ _ c.cell_of-z.ensures c.in-At-z.is in let d = c.lattice_of-l.ensures in record { fitted = c.requires.fitted; tiled = c.fill.ensures; laid = subst Laid (sym d) (laid _ _ _ _ _ c.requires.fitted.over.sides a.0 a.1 b.0 b.1); grid_value = lattice_grid _ _ _ _ _ _ d; over = c.requires.over; s_in_bounds = c.requires.s_in_bounds; }

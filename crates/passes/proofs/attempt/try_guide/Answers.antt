@@ -13,7 +13,7 @@ pub fill-requires : goal.fill-requires
 fill-requires c = record { over = c.requires.usable.over; in_bounds = omega (arith, tiles_long); }
 
 pub slice_bounds-simulate-end : goal.slice_bounds-simulate-end
-slice_bounds-simulate-end c = sym (c.fill.auto.tiles.1.0 ∙ tiles_long)
+slice_bounds-simulate-end c = sym (c.fill.auto.tiles ∙ tiles_long)
 
 pub simulate-t-requires : goal.simulate-t-requires
 simulate-t-requires c =  let p = c.requires in record { walls = p.walls; tables = p.tables; usable = p.usable; tiled = c.fill.ensures; }

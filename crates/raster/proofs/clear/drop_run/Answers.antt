@@ -7,6 +7,7 @@ use Rattle.loops.proofs.LoopLaws.{Going, going_none, going_more, going_end}
 use Rattle.raster.specs.Stock.{cl, drop_cell}
 use Rattle.raster.proofs.StockLaws.{Left, going_left, fair_left, drop-taken, drop_passed, cl_eq}
 use Rattle.raster.proofs.clear.drop_run.Goals as goal
+use Rattle.raster.proofs.clear.drop_run.Goals.{else-map-k-eq1, then-map-k-eq1}
 use Rattle.raster.proofs.clear.drop_run.Goals.{At-loop-k}
 
 -- what clearing keeps, at the loop's head
@@ -27,10 +28,7 @@ overflow_add-n c = omega (arith, (left (goal.at.overflow_add-n c).At-loop-k).lon
 
 pub loop-k-preserved : goal.loop-k-preserved
 loop-k-preserved c = going_more _ _ _ _ _ _ _ c.loop-k.invariant c.loop-k-test.true
-    (⊎_elim
-    (λ w. cl_eq w.1 w.2 ∙ drop-taken _ _ w.0.taken)
-    (λ w. cl_eq w.1 w.2 ∙ drop_passed _ _ w.0.left)
-    c.if-map-k-eq1.branch)
+    (elim c.if-map-k-eq1.branch [ then-map-k-eq1 w ↦ cl_eq w.map-is w.n-is ∙ drop-taken _ _ w.if-map-k-eq1.true | else-map-k-eq1 w ↦ cl_eq w.map-is w.n-is ∙ drop_passed _ _ w.if-map-k-eq1.false ])
 
 pub shape_of-map : goal.shape_of-map
 shape_of-map c = (left (goal.at.shape_of-map c).At-loop-k).long

@@ -9,6 +9,7 @@ use Rattle.raster.specs.Grid.{stock_at}
 use Rattle.raster.specs.Contact.{hit_at, hits_of}
 use Rattle.raster.proofs.ContactLaws.{rim-point, hit_yes, hit_no, hits-most}
 use Rattle.raster.proofs.contact.hits.Goals as goal
+use Rattle.raster.proofs.contact.hits.Goals.{else-at, then-at}
 use Rattle.raster.proofs.contact.hits.Goals.{At-loop-sample}
 
 most : (c : At-loop-sample) → c.loop-sample.h ≤ c.loop-sample.sample
@@ -56,10 +57,7 @@ loop-sample-preserved c = let k = c.loop-sample.sample in
     rim-point c.args.c c.args.r c.args.n k _ _ _ _ (c.requires.rim.x k c.loop-sample-test.true)
     (c.requires.rim.y k c.loop-sample-test.true) c.scale.ensures c.add.ensures in
     going_more _ _ _ _ _ _ _ c.loop-sample.invariant c.loop-sample-test.true
-    (⊎_elim
-    (λ w. w.1 ∙ hit_yes _ _ _ _ _ _ _ (sym (c.at.ensures ∙ ap (stock_at c.args.g c.args.map.now) e) ∙ w.0.taken))
-    (λ w. w.1 ∙ hit_no _ _ _ _ _ _ _ (sym (c.at.ensures ∙ ap (stock_at c.args.g c.args.map.now) e) ∙ w.0.left))
-    c.if-at.branch)
+    (elim c.if-at.branch [ then-at w ↦ w.h-is ∙ hit_yes _ _ _ _ _ _ _ (sym (c.at.ensures ∙ ap (stock_at c.args.g c.args.map.now) e) ∙ w.if-at.true) | else-at w ↦ w.h-is ∙ hit_no _ _ _ _ _ _ _ (sym (c.at.ensures ∙ ap (stock_at c.args.g c.args.map.now) e) ∙ w.if-at.false) ])
 
 pub returns : goal.returns
 unfolding hits_of

@@ -9,6 +9,7 @@ use Rattle.raster.specs.Log.{st, clear_cell}
 use Rattle.raster.proofs.LogLaws.{Kept, going_kept, room-left, cell-taken, cell-left, st_eq}
 use borrow.Author.Rules.{rules}
 use Rattle.raster.proofs.log.clear_run.Goals as goal
+use Rattle.raster.proofs.log.clear_run.Goals.{else-map-k-eq1, then-map-k-eq1}
 use Rattle.raster.proofs.log.clear_run.Goals.{At-loop-k, Then-map-k-eq1}
 
 -- what clearing keeps, at the loop's head
@@ -42,10 +43,7 @@ overflow_add-n c = omega (arith, room (goal.at.overflow_add-n c).Then-map-k-eq1,
 
 pub loop-k-preserved : goal.loop-k-preserved
 loop-k-preserved c = going_more _ _ _ _ _ _ _ c.loop-k.invariant c.loop-k-test.true
-    (⊎_elim
-    (λ w. st_eq w.3 (w.4 ∙ ap (λ (v : ℕ). set c.loop-k.log c.loop-k.n v) (w.2.ensures ∙ w.1.ensures)) w.5 ∙ cell-taken _ _ w.0.taken)
-    (λ w. st_eq w.1 w.2 w.3 ∙ cell-left _ _ w.0.left)
-    c.if-map-k-eq1.branch)
+    (elim c.if-map-k-eq1.branch [ then-map-k-eq1 w ↦ st_eq w.map-is (w.log-is ∙ ap (λ (v : ℕ). set c.loop-k.log c.loop-k.n v) (w.number_of.ensures ∙ w.cell_at.ensures)) w.n-is ∙ cell-taken _ _ w.if-map-k-eq1.true | else-map-k-eq1 w ↦ st_eq w.map-is w.log-is w.n-is ∙ cell-left _ _ w.if-map-k-eq1.false ])
 
 pub shape_of-map : goal.shape_of-map
 shape_of-map c = (kept (goal.at.shape_of-map c).At-loop-k).cells-long

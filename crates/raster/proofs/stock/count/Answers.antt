@@ -8,6 +8,7 @@ use lib.ListN.{length, take}
 use Rattle.loops.specs.Cells.{ones}
 use Rattle.raster.proofs.StockLaws.{count-one, count_none, count_most, count-all}
 use Rattle.raster.proofs.stock.count.Goals as goal
+use Rattle.raster.proofs.stock.count.Goals.{else-map-k-eq1, then-map-k-eq1}
 
 pub loop-k-init : goal.loop-k-init
 unfolding ones
@@ -19,10 +20,7 @@ overflow_add-standing c = omega (arith, count_most c.args.map.now c.loop-k.k c.l
 pub loop-k-preserved : goal.loop-k-preserved
 loop-k-preserved c = let more : c.loop-k.k < length c.args.map.now = c.loop-k-test.true in (
   omega arith,
-  ⊎_elim
-      (λ w. w.1 ∙ count-one _ _ _ more c.loop-k.invariant.1 w.0.taken)
-      (λ w. w.1 ∙ count_none _ _ _ more c.loop-k.invariant.1 w.0.left)
-      c.if-map-k-eq1.branch,
+  elim c.if-map-k-eq1.branch [ then-map-k-eq1 w ↦ w.standing-is ∙ count-one _ _ _ more c.loop-k.invariant.1 w.if-map-k-eq1.true | else-map-k-eq1 w ↦ w.standing-is ∙ count_none _ _ _ more c.loop-k.invariant.1 w.if-map-k-eq1.false ],
 )
 
 pub returns : goal.returns

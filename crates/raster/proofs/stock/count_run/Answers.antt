@@ -7,6 +7,7 @@ use Rattle.loops.proofs.LoopLaws.{Going, going_none, going_more, going_end}
 use Rattle.raster.specs.Stock.{tally}
 use Rattle.raster.proofs.StockLaws.{run-most, tally-one, tally-none}
 use Rattle.raster.proofs.stock.count_run.Goals as goal
+use Rattle.raster.proofs.stock.count_run.Goals.{else-map-k-eq1, then-map-k-eq1}
 use Rattle.raster.proofs.stock.count_run.Goals.{At-loop-k}
 
 -- no more is counted than the cells so far
@@ -21,10 +22,7 @@ overflow_add-n c = omega (arith, most (goal.at.overflow_add-n c).At-loop-k)
 
 pub loop-k-preserved : goal.loop-k-preserved
 loop-k-preserved c = going_more _ _ _ _ _ _ _ c.loop-k.invariant c.loop-k-test.true
-    (⊎_elim
-    (λ w. w.1 ∙ tally-one _ _ _ w.0.taken)
-    (λ w. w.1 ∙ tally-none _ _ _ w.0.left)
-    c.if-map-k-eq1.branch)
+    (elim c.if-map-k-eq1.branch [ then-map-k-eq1 w ↦ w.n-is ∙ tally-one _ _ _ w.if-map-k-eq1.true | else-map-k-eq1 w ↦ w.n-is ∙ tally-none _ _ _ w.if-map-k-eq1.false ])
 
 pub returns : goal.returns
 returns c = going_end _ _ _ _ _ _ c.loop-k.invariant c.loop-k-test.false

@@ -8,6 +8,7 @@ use Rattle.loops.proofs.LoopLaws.{Going, going_none, going_more, going_end}
 use Rattle.raster.specs.Stock.{keep_cell, intersection}
 use Rattle.raster.proofs.StockLaws.{kept-one, kept_not, keep-long}
 use Rattle.raster.proofs.stock.intersect.Goals as goal
+use Rattle.raster.proofs.stock.intersect.Goals.{else-other-k-ne1, then-other-k-ne1}
 use Rattle.raster.proofs.stock.intersect.Goals.{At-loop-k}
 
 long : (c : At-loop-k) → length c.loop-k.map ≡ length c.args.map.now
@@ -21,10 +22,7 @@ bounds-map-k c = omega (arith, long (goal.at.bounds-map-k c).At-loop-k)
 
 pub loop-k-preserved : goal.loop-k-preserved
 loop-k-preserved c = going_more _ _ _ _ _ _ _ c.loop-k.invariant c.loop-k-test.true
-    (⊎_elim
-    (λ w. w.1 ∙ kept_not _ _ _ w.0.taken)
-    (λ w. w.1 ∙ kept-one _ _ _ w.0.left)
-    c.if-other-k-ne1.branch)
+    (elim c.if-other-k-ne1.branch [ then-other-k-ne1 w ↦ w.map-is ∙ kept_not _ _ _ w.if-other-k-ne1.true | else-other-k-ne1 w ↦ w.map-is ∙ kept-one _ _ _ w.if-other-k-ne1.false ])
 
 pub shape_of-map : goal.shape_of-map
 shape_of-map c = long (goal.at.shape_of-map c).At-loop-k

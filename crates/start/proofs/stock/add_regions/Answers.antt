@@ -63,7 +63,7 @@ loop-k-preserved c =    let s = c.args in
     let r = this (goal.at.loop-k-preserved c).After-size-loops in
     record {
       going = going_more _ _ _ _ _ _ _ l.invariant.going c.loop-k-test.true (c.fill_region.ensures ∙ ap (λ (q : Region). fill_region s.g s.vs.now s.lens.now q l.map) r);
-      long = c.fill_region.auto.xs.1.1.1.1.0 ∙ l.invariant.long;
+      long = c.fill_region.auto.xs ∙ l.invariant.long;
       start = c.end_of-at-in-loop-k.ensures ∙ next-at s.lens.now s.regions.now l.k _ r;
       loop = next-first s.lens.now s.regions.now l.k _ _ l.invariant.loop c.size-loops.ensures;
     }
