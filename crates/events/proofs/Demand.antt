@@ -13,7 +13,7 @@ use Rattle.floats.proofs.OrderLaws.{le_lt}
 use Rattle.geom.specs.declared.vec2.Vec2.{Vec2}
 use Rattle.raster.specs.Contact.{angle_of}
 use Rattle.raster.specs.Stock.{clear_disk}
-use Rattle.raster.specs.Log.{Stock, st, undone, redone}
+use Rattle.raster.specs.Log.{clear_after, Stock, st, undone, redone}
 use Rattle.raster.proofs.LogLaws.{kept-none, st_eq, undone-long}
 use Rattle.raster.proofs.RunLaws.{kept-passes, ready_for}
 use Rattle.raster.proofs.ClearLaws.{disk-cells, after-cells}
@@ -50,7 +50,7 @@ module _ (j : Job) where
   later_good f s m p [] e h = tt
   later_good f s m p (q ∷ qs) e h = (
     point_good f s.cells m q e h.0,
-    later_good f _ _ q.at qs (after-cells j.grid p q.at j.r s ∙ ap (crescent j.grid p q.at j.r) e) h.1,
+    later_good f (clear_after j.grid p q.at j.r s) _ q.at qs (after-cells j.grid p q.at j.r s ∙ ap (crescent j.grid p q.at j.r) e) h.1,
   )
 
   pass_good : Below → (s : Stock) (m : List ℕ) (ps : List Point) → s.cells ≡ m → PassChecked j s ps → PassGood j m ps

@@ -31,13 +31,13 @@ module _ (j : Job) where
       → clear_after j.grid (last_of p (spots ps)) q.at j.r (later_logged p ps s) ≡ later_logged p (ps ++ (q ∷ [])) s
   unfolding passes cuts_from
   later_more p [] q s = refl
-  later_more p (d ∷ ps) q s = later_more d.at ps q _
+  later_more p (d ∷ ps) q s = later_more d.at ps q (clear_after j.grid p d.at j.r s)
 
   -- a point checked on the map as the pass so far left it
   pub checked_more : (s : Stock) (p : Vec2) (ps : List Point) (q : Point) → LaterChecked j s p ps → PointChecked j (later_logged p ps s).cells q → LaterChecked j s p (ps ++ (q ∷ []))
   unfolding passes cuts_from
   checked_more s p [] q h g = (g, tt)
-  checked_more s p (d ∷ ps) q h g = (h.0, checked_more _ d.at ps q h.1 g)
+  checked_more s p (d ∷ ps) q h g = (h.0, checked_more (clear_after j.grid p d.at j.r s) d.at ps q h.1 g)
 
 -- ---- a pass from its triples
 

@@ -19,7 +19,7 @@ last_row c = last_within _ _ _ _ c.rows_of-rows.ensures c.requires.sides.high
 
 -- in a turn the row is one of the grid's, and its span lies in it
 row : (c : In-loop-j) → c.loop-j.j < c.args.g.ny
-row c = omega (arith, c.loop-j-test.true, last_row c.before.before)
+row c = omega (arith, c.loop-j-test.true, (let told : c.rows_of-rows.result.1 < c.args.g.ny = last_within _ _ _ _ c.rows_of-rows.ensures c.requires.sides.high in told))
 
 within : (c : After-chord-s) → InRow c.args.g.nx c.chord-s.result
 within c = chord_within _ _ _ _ _ c.chord-s.ensures c.requires.sides

@@ -52,22 +52,22 @@ wide c = omega (arith, c.requires.chaining.marks-long, c.requires.chaining.pts-l
 
 -- what the tests say of it
 is_none : (c : Then-is_nothing) → n-at c.before.before.before ≡ nothing
-is_none c = sym (n_is c.before.before) ∙ eqb-true _ _ (sym c.is_nothing.ensures ∙ c.if-is_nothing.true)
+is_none c = sym ((let told : c.next_of-n.result.0 ≡ n-at c.before = ap (λ (e : EdgeNo). e.0) c.next_of-n.ensures in told)) ∙ eqb-true _ _ (sym c.is_nothing.ensures ∙ c.if-is_nothing.true)
 
 not_none : (c : Else-is_nothing) → n-at c.before.before.before ≡ nothing → ⊥
-not_none c z = eqb-false _ _ (sym c.is_nothing.ensures ∙ c.if-is_nothing.false) (n_is c.before.before ∙ z)
+not_none c z = eqb-false _ _ (sym c.is_nothing.ensures ∙ c.if-is_nothing.false) ((let told : c.next_of-n.result.0 ≡ n-at c.before = ap (λ (e : EdgeNo). e.0) c.next_of-n.ensures in told) ∙ z)
 
 is-first : (c : Then-same_edge) → n-at c.before.before.before.before.before ≡ c.args.s.0
-is-first c = sym (n_is c.before.before.before.before) ∙ eqb-true _ _ (sym c.same_edge.ensures ∙ c.if-same_edge.true)
+is-first c = sym ((let told : c.next_of-n.result.0 ≡ n-at c.before = ap (λ (e : EdgeNo). e.0) c.next_of-n.ensures in told)) ∙ eqb-true _ _ (sym c.same_edge.ensures ∙ c.if-same_edge.true)
 
 not_first : (c : Else-same_edge) → n-at c.before.before.before.before.before ≡ c.args.s.0 → ⊥
-not_first c z = eqb-false _ _ (sym c.same_edge.ensures ∙ c.if-same_edge.false) (n_is c.before.before.before.before ∙ z)
+not_first c z = eqb-false _ _ (sym c.same_edge.ensures ∙ c.if-same_edge.false) ((let told : c.next_of-n.result.0 ≡ n-at c.before = ap (λ (e : EdgeNo). e.0) c.next_of-n.ensures in told) ∙ z)
 
 used : (c : Then-is_used) → get_or c.loop-g.marks (n-at c.before.before.before.before.before.before.before.before) 0 ≡ 1
-used c = ap (λ (k : ℕ). get_or c.loop-g.marks k 0) (sym (n_is c.before.before.before.before.before.before)) ∙ eqb-true _ _ (sym c.is_used.ensures ∙ c.if-is_used.true)
+used c = ap (λ (k : ℕ). get_or c.loop-g.marks k 0) (sym ((let told : c.next_of-n.result.0 ≡ n-at c.before = ap (λ (e : EdgeNo). e.0) c.next_of-n.ensures in told))) ∙ eqb-true _ _ (sym c.is_used.ensures ∙ c.if-is_used.true)
 
 fresh : (c : Else-is_used) → get_or c.loop-g.marks (n-at c.before.before.before.before.before.before.before.before) 0 ≡ 1 → ⊥
-fresh c z = eqb-false _ _ (sym c.is_used.ensures ∙ c.if-is_used.false) (ap (λ (k : ℕ). get_or c.loop-g.marks k 0) (n_is c.before.before.before.before.before.before) ∙ z)
+fresh c z = eqb-false _ _ (sym c.is_used.ensures ∙ c.if-is_used.false) (ap (λ (k : ℕ). get_or c.loop-g.marks k 0) ((let told : c.next_of-n.result.0 ≡ n-at c.before = ap (λ (e : EdgeNo). e.0) c.next_of-n.ensures in told)) ∙ z)
 
 pub use_edge-requires : goal.use_edge-requires
 use_edge-requires c = below (goal.at.use_edge-requires c).Start _ c.requires.chaining.start

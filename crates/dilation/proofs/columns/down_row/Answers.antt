@@ -13,7 +13,7 @@ pub loop-i-init : goal.loop-i-init
 loop-i-init c = (wrote_none _ _ _ _, wrote_none _ _ _ _, omega arith, refl, refl)
 
 pub loop-i-preserved : goal.loop-i-preserved
-loop-i-preserved c =    let i = c.loop-i.invariant in
+loop-i-preserved c = let i = c.loop-i.invariant in
     let d = c.loop-i-test.true in
     let e = c.from_above-d.ensures ∙ ap (λ (x : ℕ). from_above (get_or c.args.marks.now (c.args.base + c.loop-i.i) 0) 1 x) (i.0.right c.loop-i.i (omega arith) (omega arith)) in (
       wrote_more _ _ _ _ _ c.loop-i.i _ _ i.0 (omega arith) (omega arith) (omega (arith, c.requires.n_in_bounds_3, d, i.3)) e,
@@ -24,5 +24,5 @@ loop-i-preserved c =    let i = c.loop-i.invariant in
     )
 
 pub returns : goal.returns
-returns c =     let i = c.loop-i.invariant in
-    let l = c.loop-i-test.false in record { wrote = wrote-end _ _ _ _ _ _ _ i.0 l (omega (arith, i.2)); wrote_2 = wrote-end _ _ _ _ _ _ _ i.1 l (omega (arith, i.2)); }
+returns c = let i = c.loop-i.invariant in
+    let l = c.loop-i-test.false in record { wrote = wrote-end _ _ _ _ _ _ _ i.0 l (omega (arith, i.2)); wrote_2 = wrote-end _ _ _ _ _ _ _ i.1 l (omega (arith, i.2)) }

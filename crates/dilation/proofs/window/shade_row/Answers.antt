@@ -5,10 +5,10 @@ use borrow.Author.Rules.{rules}
 use Rattle.dilation.proofs.window.shade_row.Goals as goal
 
 pub cover_within-requires : goal.cover_within-requires
-cover_within-requires c =     let p = c.requires in record { wide = p.wide; n_in_bounds = omega (arith, p.wide.places); covered = blank_covered _ _ _ _ p.wide p.n_in_bounds.1; }
+cover_within-requires c = let p = c.requires in record { wide = p.wide; n_in_bounds = omega (arith, p.wide.places); covered = blank_covered _ _ _ _ p.wide p.n_in_bounds.1 }
 
 pub cover_within-requires-2 : goal.cover_within-requires-2
-cover_within-requires-2 c =     let p = c.requires in record { wide = p.wide_2; n_in_bounds = omega (arith, p.wide.places); covered = blank_covered _ _ _ _ p.wide_2 p.n_in_bounds.2; }
+cover_within-requires-2 c = let p = c.requires in record { wide = p.wide_2; n_in_bounds = omega (arith, p.wide.places); covered = blank_covered _ _ _ _ p.wide_2 p.n_in_bounds.2 }
 
 pub returns : goal.returns
 returns c = record {

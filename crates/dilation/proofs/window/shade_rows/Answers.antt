@@ -30,7 +30,7 @@ told l t =
     subst (λ (x : ℕ). Shading o.marks.now o.nx o.w o.step o.phase o.b.near o.b.far x l.loop-j.work l.loop-j.dist) z l.loop-j.invariant.0
 
 pub loop-j-init : goal.loop-j-init
-loop-j-init c =    let e = c.down.ensures in
+loop-j-init c = let e = c.down.ensures in
     (shading_none _ _ c.args.w c.requires.on _ _ _ _ _ (replicate 4096 4096) e.1 (λ k h. get_or-replicate 4096 k 4096 0 h), refl, refl, omega arith)
 
 pub overflow_mul-base : goal.overflow_mul-base
@@ -40,17 +40,17 @@ pub overflow_add-base : goal.overflow_add-base
 overflow_add-base c = let p = c.requires.on in omega (arith, row (goal.at.overflow_add-base c).At-loop-j c.loop-j-test.true, p.wide, p.order)
 
 pub up_row-requires : goal.up_row-requires
-up_row-requires c =     let p = c.requires in
-    let r = row (goal.at.up_row-requires c).At-loop-j c.loop-j-test.true in record { n_in_bounds = omega (arith, r, p.on.wide, p.on.order, p.nx_in_bounds.1, long (goal.at.up_row-requires c).At-loop-j); n_in_bounds_2 = omega (arith, c.loop-j.invariant.2, p.on.columns); }
+up_row-requires c = let p = c.requires in
+    let r = row (goal.at.up_row-requires c).At-loop-j c.loop-j-test.true in record { n_in_bounds = omega (arith, r, p.on.wide, p.on.order, p.nx_in_bounds.1, long (goal.at.up_row-requires c).At-loop-j); n_in_bounds_2 = omega (arith, c.loop-j.invariant.2, p.on.columns) }
 
 pub tell_row-requires : goal.tell_row-requires
-tell_row-requires c =     let p = c.requires in
+tell_row-requires c = let p = c.requires in
     let t = c.loop-j-test.true in
     let u = c.up_row in
-    let e = u.ensures in record { wide = wide_then _ _ c.args.w p.on (c.loop-j.j - 1) (omega arith) (omega (arith, c.loop-j.invariant.3)) _ _ _ _ _ _ _ (told (goal.at.tell_row-requires c).At-loop-j t) e _ _ p.bounded.0 (u.auto.run ∙ c.loop-j.invariant.2); wide_2 = wide_then _ _ c.args.w p.on (c.loop-j.j - 1) (omega arith) (omega (arith, c.loop-j.invariant.3)) _ _ _ _ _ _ _ (told (goal.at.tell_row-requires c).At-loop-j t) e _ _ p.bounded.1 (u.auto.run ∙ c.loop-j.invariant.2); n_in_bounds = (omega (arith, row (goal.at.tell_row-requires c).At-loop-j t, p.on.wide, p.on.order, p.nx_in_bounds.1, long (goal.at.tell_row-requires c).At-loop-j), p.bounded.0, p.bounded.1); }
+    let e = u.ensures in record { wide = wide_then _ _ c.args.w p.on (c.loop-j.j - 1) (omega arith) (omega (arith, c.loop-j.invariant.3)) _ _ _ _ _ _ _ (told (goal.at.tell_row-requires c).At-loop-j t) e _ _ p.bounded.0 (u.auto.run ∙ c.loop-j.invariant.2); wide_2 = wide_then _ _ c.args.w p.on (c.loop-j.j - 1) (omega arith) (omega (arith, c.loop-j.invariant.3)) _ _ _ _ _ _ _ (told (goal.at.tell_row-requires c).At-loop-j t) e _ _ p.bounded.1 (u.auto.run ∙ c.loop-j.invariant.2); n_in_bounds = (omega (arith, row (goal.at.tell_row-requires c).At-loop-j t, p.on.wide, p.on.order, p.nx_in_bounds.1, long (goal.at.tell_row-requires c).At-loop-j), p.bounded.0, p.bounded.1) }
 
 pub loop-j-preserved : goal.loop-j-preserved
-loop-j-preserved c =    let p = c.requires in
+loop-j-preserved c = let p = c.requires in
     let t = c.loop-j-test.true in
     let u = c.up_row in
     let e = u.ensures in
@@ -71,4 +71,4 @@ loop-j-preserved c =    let p = c.requires in
     )
 
 pub returns : goal.returns
-returns c =    shading_end _ _ c.args.w c.requires.on _ _ _ _ _ _ _ _ c.loop-j.invariant.0 c.loop-j-test.false (long (goal.at.returns c).At-loop-j)
+returns c = shading_end _ _ c.args.w c.requires.on _ _ _ _ _ _ _ _ c.loop-j.invariant.0 c.loop-j-test.false (long (goal.at.returns c).At-loop-j)

@@ -13,7 +13,7 @@ pub loop-k-init : goal.loop-k-init
 loop-k-init c = (wrote_none _ _ _ _, omega arith, refl)
 
 pub loop-k-preserved : goal.loop-k-preserved
-loop-k-preserved c =    let d = c.loop-k-test.true in
+loop-k-preserved c = let d = c.loop-k-test.true in
     let i = c.loop-k.invariant in
     (wrote_more _ _ _ _ _ _ _ _ i.0 refl (omega arith) (omega (arith, c.requires.n_in_bounds_2, d, i.2)) c.word.ensures, omega (arith, d), length-set c.loop-k.work (c.args.base + c.loop-k.k) _ ∙ i.2)
 

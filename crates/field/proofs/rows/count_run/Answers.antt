@@ -36,7 +36,7 @@ hits_along-requires c =     let S = c.requires.sensing in
 
 pub returns-then-is_dense : goal.returns-then-is_dense
 returns-then-is_dense c =    let e = c.hits_along.ensures in
-    (e.0, λ t. subst (λ (n : ℕ). HitsAlong c.args.g.setup.grid c.args.map.now c.args.g.setup.r n c.args.from c.args.j c.hits_along.new.1.1.1.1.1.1.1.0) c.samples_of-n.ensures (e.1 t))
+    (e.0, λ t. subst (λ (n : ℕ). HitsAlong c.args.g.setup.grid c.args.map.now c.args.g.setup.r n c.args.from c.args.j c.hits_along.new.counts) c.samples_of-n.ensures (e.1 t))
 
 pub returns : goal.returns
 returns c = (zeros-long _ c.requires.counts_value, λ t. never t)

@@ -16,13 +16,13 @@ pub turn-requires : goal.turn-requires
 turn-requires c = let l = c.loop-i.invariant.0 in omega (arith, l.most, l.long)
 
 pub pair_from-p-requires : goal.pair_from-p-requires
-pair_from-p-requires c =     let l = c.loop-i in record { centred = c.requires.centred; rising = c.requires.rising; n_in_bounds = (c.requires.n_in_bounds, c.loop-i-test.true, l.invariant.0.cross c.loop-i-test.true); }
+pair_from-p-requires c = let l = c.loop-i in record { centred = c.requires.centred; rising = c.requires.rising; n_in_bounds = (c.requires.n_in_bounds, c.loop-i-test.true, l.invariant.0.cross c.loop-i-test.true) }
 
 pub loop-i-smaller : goal.loop-i-smaller
 loop-i-smaller c = omega (arith, c.pair_from-p.ensures.on, c.loop-i-test.true)
 
 pub loop-i-preserved : goal.loop-i-preserved
-loop-i-preserved c =    let l = c.loop-i in
+loop-i-preserved c = let l = c.loop-i in
     let t = c.turn.ensures in
     (scan_more _ _ _ _ _ _ _ _ _ _ l.invariant.0 _ t _ c.pair_from-p.ensures, t.long ∙ l.invariant.1)
 

@@ -5,6 +5,7 @@ use native.Mathlib.Omega.{arith}
 use Rattle.filling.specs.Columns.{Turned}
 use Rattle.filling.proofs.ColumnLaws.{turned_none, turned_more, turned-end, flip_one, flip_other}
 use Rattle.filling.proofs.columns.turn.Goals as goal
+use Rattle.filling.proofs.columns.turn.Goals.{else-row-i-eq1, then-row-i-eq1}
 
 pub loop-i-init : goal.loop-i-init
 loop-i-init c = (omega arith, omega arith, turned_none _ _)
@@ -16,8 +17,8 @@ pub bounds-row-i-in-loop-i : goal.bounds-row-i-in-loop-i
 bounds-row-i-in-loop-i c = omega (arith, c.loop-i.invariant.2.long)
 
 pub loop-i-preserved : goal.loop-i-preserved
-loop-i-preserved c =    let l = c.loop-i in
-    (omega arith, omega arith, turned_more _ _ _ _ _ l.invariant.2 l.invariant.0 (omega arith) (⊎_elim (λ w. flip_one _ _ w.0.taken w.1) (λ w. flip_other _ _ w.0.left w.1) c.if-row-i-eq1.branch))
+loop-i-preserved c = let l = c.loop-i in
+    (omega arith, omega arith, turned_more _ _ _ _ _ l.invariant.2 l.invariant.0 (omega arith) (elim c.if-row-i-eq1.branch [ then-row-i-eq1 w ↦ flip_one _ _ w.if-row-i-eq1.true w.row-is | else-row-i-eq1 w ↦ flip_other _ _ w.if-row-i-eq1.false w.row-is ]))
 
 pub shape_of-row : goal.shape_of-row
 shape_of-row c = c.loop-i.invariant.2.long

@@ -24,7 +24,7 @@ pub returns-then-straddles : goal.returns-then-straddles
 returns-then-straddles c = seeking_found _ _ _ _ _ _ c.loop-i.invariant.0 (sym (answer (goal.at.returns-then-straddles c).After-straddles) ∙ c.if-straddles.true)
 
 pub loop-i-preserved : goal.loop-i-preserved
-loop-i-preserved c =    (seeking_more _ _ _ _ _ _ c.loop-i.invariant.0 c.loop-i-test.true (sym (answer (goal.at.loop-i-preserved c).After-straddles) ∙ c.if-straddles.false), c.vertex-a.ensures ∙ before-next _ _ _ _)
+loop-i-preserved c = (seeking_more _ _ _ _ _ _ c.loop-i.invariant.0 c.loop-i-test.true (sym (answer (goal.at.loop-i-preserved c).After-straddles) ∙ c.if-straddles.false), c.vertex-a.ensures ∙ before-next _ _ _ _)
 
 pub returns : goal.returns
 returns c = seeking_end _ _ _ _ _ _ c.loop-i.invariant.0 c.loop-i-test.false

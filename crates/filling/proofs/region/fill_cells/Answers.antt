@@ -9,6 +9,7 @@ use Rattle.loops.proofs.LoopLaws.{Going, going_none, going_more, going_end}
 use Rattle.filling.specs.Fill.{fill_cell, fill_row}
 use Rattle.filling.proofs.FillLaws.{cells-long, cell_in, cell_out}
 use Rattle.filling.proofs.region.fill_cells.Goals as goal
+use Rattle.filling.proofs.region.fill_cells.Goals.{else-contains, then-contains}
 use Rattle.filling.proofs.region.fill_cells.Goals.{At-loop-i, In-loop-i}
 
 long : (c : At-loop-i) → length c.loop-i.map ≡ length c.args.map.now
@@ -39,15 +40,12 @@ pub bounds-map-base : goal.bounds-map-base
 bounds-map-base c = omega (arith, within (goal.at.bounds-map-base c).In-loop-i, long (goal.at.bounds-map-base c).At-loop-i)
 
 pub loop-i-preserved : goal.loop-i-preserved
-loop-i-preserved c =    let s = c.args in
+loop-i-preserved c = let s = c.args in
     let l = c.loop-i in
     let p = c.center in
     let t = c.contains in
     going_more _ _ _ _ _ _ _ l.invariant c.loop-i-test.true
-    (⊎_elim
-    (λ w. w.1 ∙ cell_in s.g s.vs.now s.lens.now s.region s.j l.i p.result p.ensures t.result t.ensures l.map w.0.taken)
-    (λ w. w.1 ∙ cell_out s.g s.vs.now s.lens.now s.region s.j l.i p.result p.ensures t.result t.ensures l.map w.0.left)
-    c.if-contains.branch)
+    (elim c.if-contains.branch [ then-contains w ↦ w.map-is ∙ cell_in s.g s.vs.now s.lens.now s.region s.j l.i p.result p.ensures t.result t.ensures l.map w.if-contains.true | else-contains w ↦ w.map-is ∙ cell_out s.g s.vs.now s.lens.now s.region s.j l.i p.result p.ensures t.result t.ensures l.map w.if-contains.false ])
 
 pub shape_of-map : goal.shape_of-map
 shape_of-map c = long (goal.at.shape_of-map c).At-loop-i

@@ -18,7 +18,7 @@ pub loop-j-init : goal.loop-j-init
 loop-j-init c = going_none _ _ _ _
 
 pub fill_cells-requires : goal.fill_cells-requires
-fill_cells-requires c = record { over = record { sides = c.requires.over.sides; long = omega (arith, c.requires.over.long, long (goal.at.fill_cells-requires c).At-loop-j) }; held = c.requires.held; j_lt_ny = c.loop-j-test.true; }
+fill_cells-requires c = record { over = record { sides = c.requires.over.sides; long = omega (arith, c.requires.over.long, long (goal.at.fill_cells-requires c).At-loop-j) }; held = c.requires.held; j_lt_ny = c.loop-j-test.true }
 
 pub loop-j-preserved : goal.loop-j-preserved
 loop-j-preserved c = going_more _ _ _ _ _ _ _ c.loop-j.invariant c.loop-j-test.true c.fill_cells.ensures

@@ -5,4 +5,4 @@ use borrow.Author.Rules.{rules}
 use Rattle.filling.proofs.region.fill_region.Goals as goal
 
 pub fill_rows-requires : goal.fill_rows-requires
-fill_rows-requires c = record { over = c.requires.over; held = c.requires.held; centred = (centred_front _ _ _ _ refl c.centres.ensures, c.rises.ensures c.if-rises.true); }
+fill_rows-requires c = record { over = c.requires.over; held = c.requires.held; centred = (centred_front _ _ _ _ refl c.centres.ensures, c.rises.ensures c.if-rises.true) }

@@ -5,11 +5,11 @@ use borrow.Author.Rules.{rules}
 use Rattle.filling.proofs.rows.cover_loop.Goals as goal
 
 pub paint-requires : goal.paint-requires
-paint-requires c =    let r = run-told _ _ _ _ _ _ c.in-Run.is c.columns_of-c.ensures in
+paint-requires c = let r = run-told _ _ _ _ _ _ c.in-Run.is c.columns_of-c.ensures in
     omega (arith, r.0.most, c.requires.xs_in_bounds)
 
 pub returns-in-Run : goal.returns-in-Run
-returns-in-Run c =    let r = run-told _ _ _ _ _ _ c.in-Run.is c.columns_of-c.ensures in
+returns-in-Run c = let r = run-told _ _ _ _ _ _ c.in-Run.is c.columns_of-c.ensures in
     join_run _ _ _ _ _ _ r.0 r.1 c.requires.xs_in_bounds _ c.paint.ensures
 
 pub returns-in-Many : goal.returns-in-Many

@@ -5,6 +5,7 @@ use native.Mathlib.Omega.{arith}
 use lib.ListN.{get_or}
 use Rattle.filling.proofs.ColumnLaws.{Covering, covering_none, covering_more, covering_end, cover-yes, cover_not}
 use Rattle.filling.proofs.rows.cover_where.Goals as goal
+use Rattle.filling.proofs.rows.cover_where.Goals.{else-row-i, then-row-i}
 
 pub loop-i-init : goal.loop-i-init
 loop-i-init c = (covering_none _ _ _, omega arith)
@@ -22,9 +23,9 @@ pub bounds-row-i-in-loop-i : goal.bounds-row-i-in-loop-i
 bounds-row-i-in-loop-i c = omega (arith, c.loop-i.invariant.0.wiped.long)
 
 pub loop-i-preserved : goal.loop-i-preserved
-loop-i-preserved c =    let l = c.loop-i in
+loop-i-preserved c = let l = c.loop-i in
     let x = get_or l.cover l.i 0 in
-    (covering_more _ _ _ _ _ _ _ l.invariant.0 (omega arith) (omega arith) (⊎_elim (λ w. cover-yes _ _ x w.0.taken w.1) (λ w. cover_not _ _ x w.0.left w.1) c.if-row-i.branch), omega arith)
+    (covering_more _ _ _ _ _ _ _ l.invariant.0 (omega arith) (omega arith) (elim c.if-row-i.branch [ then-row-i w ↦ cover-yes _ _ x w.if-row-i.true w.cover-is | else-row-i w ↦ cover_not _ _ x w.if-row-i.false w.cover-is ]), omega arith)
 
 pub shape_of-row : goal.shape_of-row
 shape_of-row c = c.loop-i.invariant.0.wiped.long

@@ -8,5 +8,5 @@ use borrow.Author.Rules.{rules}
 use Rattle.filling.proofs.rows.set_and_uncover.Goals as goal
 
 pub returns : goal.returns
-returns c =    let f = c.set_free in
+returns c = let f = c.set_free in
     (f.ensures, subst (λ (l : List ℕ). Shows c.args.n nowhere l) (sym c.paint.ensures) (blank-after c.args.n c.args.cover.now c.requires.2))

@@ -8,6 +8,7 @@ use Rattle.loops.proofs.LoopLaws.{Going, going_none, going_more, going_end}
 use Rattle.filling.specs.Columns.{free_at}
 use Rattle.filling.proofs.ColumnLaws.{free-long, free_not, free-yes}
 use Rattle.filling.proofs.rows.set_free.Goals as goal
+use Rattle.filling.proofs.rows.set_free.Goals.{else-cover-i-eq1, then-cover-i-eq1}
 use Rattle.filling.proofs.rows.set_free.Goals.{At-loop-i}
 
 long : (c : At-loop-i) → length c.loop-i.map ≡ length c.args.map.now
@@ -23,13 +24,10 @@ pub bounds-map-m-in-loop-i : goal.bounds-map-m-in-loop-i
 bounds-map-m-in-loop-i c = omega (arith, long (goal.at.bounds-map-m-in-loop-i c).At-loop-i)
 
 pub loop-i-preserved : goal.loop-i-preserved
-loop-i-preserved c =    let l = c.loop-i in
+loop-i-preserved c = let l = c.loop-i in
     let s = c.args in
     going_more _ _ _ _ _ _ _ l.invariant c.loop-i-test.true
-    (⊎_elim
-    (λ w. free_not s.base s.cover.now l.i l.map _ w.0.taken w.1)
-    (λ w. free-yes s.base s.cover.now l.i l.map _ w.0.left w.1)
-    c.if-cover-i-eq1.branch)
+    (elim c.if-cover-i-eq1.branch [ then-cover-i-eq1 w ↦ free_not s.base s.cover.now l.i l.map _ w.if-cover-i-eq1.true w.map-is | else-cover-i-eq1 w ↦ free-yes s.base s.cover.now l.i l.map _ w.if-cover-i-eq1.false w.map-is ])
 
 pub shape_of-map : goal.shape_of-map
 shape_of-map c = long (goal.at.shape_of-map c).At-loop-i

@@ -8,6 +8,7 @@ use Rattle.loops.proofs.LoopLaws.{Going, going_none, going_more, going_end}
 use Rattle.filling.specs.Columns.{shown_at}
 use Rattle.filling.proofs.ColumnLaws.{Wiped, wiped_none, wiped_more, wiped_end, shown_yes, shown_not, shown_long}
 use Rattle.filling.proofs.rows.set_shown.Goals as goal
+use Rattle.filling.proofs.rows.set_shown.Goals.{else-row-i-eq1, then-row-i-eq1}
 use Rattle.filling.proofs.rows.set_shown.Goals.{At-loop-i}
 
 long : (c : At-loop-i) → length c.loop-i.map ≡ length c.args.map.now
@@ -29,14 +30,11 @@ pub bounds-row-i-in-loop-i : goal.bounds-row-i-in-loop-i
 bounds-row-i-in-loop-i c = omega (arith, c.loop-i.invariant.1.long)
 
 pub loop-i-preserved : goal.loop-i-preserved
-loop-i-preserved c =    let l = c.loop-i in
+loop-i-preserved c = let l = c.loop-i in
     let s = c.args in
     let e = l.invariant.1.rest l.i (omega arith) in (
       going_more _ _ _ _ _ _ _ l.invariant.0 c.loop-i-test.true
-          (⊎_elim
-          (λ w. shown_yes s.base s.row.now l.row l.i e l.map _ w.0.taken w.1)
-          (λ w. shown_not s.base s.row.now l.row l.i e l.map _ w.0.left w.1)
-          c.if-row-i-eq1.branch),
+          (elim c.if-row-i-eq1.branch [ then-row-i-eq1 w ↦ shown_yes s.base s.row.now l.row l.i e l.map _ w.if-row-i-eq1.true w.map-is | else-row-i-eq1 w ↦ shown_not s.base s.row.now l.row l.i e l.map _ w.if-row-i-eq1.false w.map-is ]),
       wiped_more _ _ _ l.invariant.1 (omega arith),
     )
 

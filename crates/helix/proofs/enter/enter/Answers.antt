@@ -15,10 +15,10 @@ bore-requires c =
 
 pub returns-in-Nothing : goal.returns-in-Nothing
 returns-in-Nothing c = 
-    let r = enter_none c.args.s c.args.t c.args.vs.now c.args.lens.now c.args.pref c.args.b.now c.args.u.now c.args.w.now c.args.triples.now c.args.rows.now c.requires.standing _ c.before-2.ensures _ c.segments-end.ensures _ c.find-f.ensures.value _ c.find-f.ensures.b_after c.find-f.new.1.1.1.1.1.1.0 c.u-1.given.0 _ c.in-Nothing.is in
+    let r = enter_none c.args.s c.args.t c.args.vs.now c.args.lens.now c.args.pref c.args.b.now c.args.u.now c.args.w.now c.args.triples.now c.args.rows.now c.requires.standing _ c.before-2.ensures _ c.segments-end.ensures _ c.find-f.ensures.value _ c.find-f.ensures.b_after c.find-f.new.stack c.u-1.given.0 _ c.in-Nothing.is in
     record { result_after = r.0; settled = r.1.0; only = r.1.1; }
 
 pub returns-in-Helix : goal.returns-in-Helix
 returns-in-Helix c = 
-    let r = enter_bored c.args.s c.args.t c.args.vs.now c.args.lens.now c.args.pref c.args.b.now c.args.u.now c.args.w.now c.args.triples.now c.args.rows.now c.requires.standing _ c.before-2.ensures _ c.segments-end.ensures _ c.find-f.ensures.value _ c.find-f.ensures.b_after c.find-f.new.1.1.1.1.1.1.0 c.u-1.given.0 _ _ _ c.in-Helix.is _ _ _ _ c.bore.ensures.result_after c.bore.ensures.only in
+    let r = enter_bored c.args.s c.args.t c.args.vs.now c.args.lens.now c.args.pref c.args.b.now c.args.u.now c.args.w.now c.args.triples.now c.args.rows.now c.requires.standing _ c.before-2.ensures _ c.segments-end.ensures _ c.find-f.ensures.value _ c.find-f.ensures.b_after c.find-f.new.stack c.u-1.given.0 _ _ _ c.in-Helix.is _ _ _ _ c.bore.ensures.result_after c.bore.ensures.only in
     record { result_after = r.0; settled = r.1.0; only = r.1.1; }

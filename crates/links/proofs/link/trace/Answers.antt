@@ -24,11 +24,11 @@ lay-k-requires c =
 pub shorten-requires : goal.shorten-requires
 unfolding within
 shorten-requires c =  let e = c.lay-k.ensures in
-    let r = shorten_asks _ _ _ _ _ c.requires.fitted _ c.requires.laid c.requires.grid_value c.args.u.now c.requires.l_in_bounds _ c.nodes_of-n.ensures _ c.cells.ensures _ c.before-first.ensures _ c.cells-size.ensures _ c.path-a.ensures c.lay-k.new.1.1.0 _ e.upper_bound e.ps_len_unchanged c.args.tiles.now c.requires.tiled in
+    let r = shorten_asks _ _ _ _ _ c.requires.fitted _ c.requires.laid c.requires.grid_value c.args.u.now c.requires.l_in_bounds _ c.nodes_of-n.ensures _ c.cells.ensures _ c.before-first.ensures _ c.cells-size.ensures _ c.path-a.ensures c.lay-k.new.ps _ e.upper_bound e.ps_len_unchanged c.args.tiles.now c.requires.tiled in
     record { fitted = r.0; tiled = r.1.0; at_le_end = r.1.1.0; end_bound = r.1.1.1; }
 
 pub returns : goal.returns
 unfolding within
 returns c =  let e = c.lay-k.ensures in let r = c.shorten.ensures in
-    let r = trace_is _ _ _ _ _ c.requires.fitted _ c.requires.laid c.requires.grid_value c.args.u.now c.requires.l_in_bounds _ c.nodes_of-n.ensures _ c.cells.ensures _ c.before-first.ensures _ c.cells-size.ensures _ c.path-a.ensures c.lay-k.new.1.1.0 _ e.upper_bound e.ps_len_unchanged _ _ e.ps_after c.shorten.result _ r.w_after r.only in
+    let r = trace_is _ _ _ _ _ c.requires.fitted _ c.requires.laid c.requires.grid_value c.args.u.now c.requires.l_in_bounds _ c.nodes_of-n.ensures _ c.cells.ensures _ c.before-first.ensures _ c.cells-size.ensures _ c.path-a.ensures c.lay-k.new.ps _ e.upper_bound e.ps_len_unchanged _ _ e.ps_after c.shorten.result _ r.w_after r.only in
     record { w_after = r.0; only = r.1; }

@@ -4,7 +4,7 @@ use borrow.Author.Rules.{rules}
 use Rattle.plan.proofs.parts.enter.Goals as goal
 
 pub after_helix-requires : goal.after_helix-requires
-after_helix-requires c = helix_asks c.args.s c.args.vs.now c.args.lens.now c.args.p c.args.b.now c.args.u.now c.args.f.now c.args.w.now c.args.triples.now c.args.rows.now c.requires.standing c.requires.listed c.args.pref _ c.enter-e.new.1.1.1.1.1.1.0 _ _ _ c.enter-e.ensures.result_after c.requires.given_bound
+after_helix-requires c = helix_asks c.args.s c.args.vs.now c.args.lens.now c.args.p c.args.b.now c.args.u.now c.args.f.now c.args.w.now c.args.triples.now c.args.rows.now c.requires.standing c.requires.listed c.args.pref _ c.enter-e.new.u _ _ _ c.enter-e.ensures.result_after c.requires.given_bound
 
 pub returns : goal.returns
 returns c = 

@@ -15,4 +15,4 @@ plan_ready-requires c =
 
 pub returns : goal.returns
 returns c =    let e = c.make_ready.ensures in
-    fit_outcome _ _ _ _ _ _ _ _ _ _ _ _ c.requires _ c.setup_of-s.ensures _ _ _ _ _ _ e.f_after e.rows_after e.triples_after c.make_ready.auto.triples c.make_ready.auto.triples c.make_ready.auto.triples e.started _ c.plan_ready.ensures
+    fit_outcome _ _ _ _ _ _ _ _ _ _ _ _ c.requires _ c.setup_of-s.ensures _ _ _ _ _ _ e.f_after e.rows_after e.triples_after c.make_ready.auto.b c.make_ready.auto.u c.make_ready.auto.w e.started _ c.plan_ready.ensures

@@ -26,7 +26,7 @@ pub slice_bounds-block_of-end : goal.slice_bounds-block_of-end
 slice_bounds-block_of-end c = ends (goal.at.slice_bounds-block_of-end c).After-least-in-loop-b
 
 pub block_of-requires : goal.block_of-requires
-block_of-requires c =    let p = c.requires in
+block_of-requires c = let p = c.requires in
     let l = c.loop-b in
     numbers_part l.w _ _ (ends (goal.at.block_of-requires c).After-least-in-loop-b) (c.args.at + 1) (c.args.at + 1 + c.args.n) (omega arith) (omega (arith, c.least-in-loop-b.ensures)) (numbers-before _ _ _ _ _ l.w (omega (arith, p.n_bound.0)) l.invariant.0 p.numbers)
 
@@ -37,7 +37,7 @@ pub bounds-w-at : goal.bounds-w-at
 bounds-w-at c = omega (arith, c.loop-b.invariant.0.long, c.loop-b-test.true, c.requires.n_bound.1)
 
 pub loop-b-preserved : goal.loop-b-preserved
-loop-b-preserved c =    let p = c.requires in
+loop-b-preserved c = let p = c.requires in
     let l = c.loop-b in
     let h = c.loop-b-test.true in (
       apart-set _ _ _ l.w _ _ (omega arith) (omega (arith, h)) l.invariant.0,

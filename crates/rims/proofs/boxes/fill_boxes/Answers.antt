@@ -9,7 +9,7 @@ use borrow.Author.Rules.{rules}
 use Rattle.rims.proofs.boxes.fill_boxes.Goals as goal
 use Rattle.rims.proofs.boxes.fill_boxes.Goals.{After-slice_known-then-is_tame-2-1}
 
-long : (c : After-slice_known-then-is_tame-2-1) → length c.fill_blocks.new.1.1.0 ≡ length c.args.w.now
+long : (c : After-slice_known-then-is_tame-2-1) → length c.fill_blocks.new.w ≡ length c.args.w.now
 long c = c.fill_blocks.ensures.0.long ∙ c.fill_entries.ensures.0.long ∙ length-set c.args.w.now c.args.at (of_bits binary64 0)
 
 pub returns-then-w-lt17152 : goal.returns-then-w-lt17152
@@ -24,14 +24,14 @@ float_to_bits-w c = let p = c.requires in
     flag-number c.args.g c.args.r c.args.n c.args.at c.args.w.now (omega (arith, p.n_bound.2)) p.sides (omega (arith, p.n_bound.1)) p.n_bound.0 l p.started
 
 pub fill_entries-requires : goal.fill_entries-requires
-fill_entries-requires c =  let p = c.requires in
+fill_entries-requires c = let p = c.requires in
     let k = p.n_bound in
     let l = c.if-w-lt17152.false in
-    let n = length-set c.args.w.now c.args.at (of_bits binary64 0) in record { sides = p.sides; tame = c.is_tame.ensures c.if-is_tame.true; rim = rim-apart c.args.n c.args.at _ c.args.w.now _ (omega (arith, k.0, k.1)) (head_apart c.args.g c.args.r c.args.n c.args.at c.args.w.now (omega (arith, l, k.2))) p.rim; s_nonzero = (reach-some _ _ _ c.reach_of-s.ensures.0, k.0, omega (arith, k.1), omega (arith, n, l, k.2)); }
+    let n = length-set c.args.w.now c.args.at (of_bits binary64 0) in record { sides = p.sides; tame = c.is_tame.ensures c.if-is_tame.true; rim = rim-apart c.args.n c.args.at _ c.args.w.now _ (omega (arith, k.0, k.1)) (head_apart c.args.g c.args.r c.args.n c.args.at c.args.w.now (omega (arith, l, k.2))) p.rim; s_nonzero = (reach-some _ _ _ c.reach_of-s.ensures.0, k.0, omega (arith, k.1), omega (arith, n, l, k.2)) }
 
 pub fill_blocks-requires : goal.fill_blocks-requires
-fill_blocks-requires c =  let k = c.requires.n_bound in
-    let e = c.fill_entries.ensures in record { n_bound = (k.0, omega (arith, e.0.long, length-set c.args.w.now c.args.at (of_bits binary64 0), c.if-w-lt17152.false, k.2)); numbers = entries-numbers _ _ _ _ _ _ e.1; }
+fill_blocks-requires c = let k = c.requires.n_bound in
+    let e = c.fill_entries.ensures in record { n_bound = (k.0, omega (arith, e.0.long, length-set c.args.w.now c.args.at (of_bits binary64 0), c.if-w-lt17152.false, k.2)); numbers = entries-numbers _ _ _ _ _ _ e.1 }
 
 pub float_from_bits-w : goal.float_from_bits-w
 float_from_bits-w c = no_nan_bits _ (omega (arith, c.reach_of-s.ensures.1))
@@ -40,7 +40,7 @@ pub bounds-w-at-then-is_tame : goal.bounds-w-at-then-is_tame
 bounds-w-at-then-is_tame c = omega (arith, long (goal.at.bounds-w-at-then-is_tame c).After-slice_known-then-is_tame-2-1, c.if-w-lt17152.false, c.requires.n_bound.2)
 
 pub shape_of-w-then-is_tame : goal.shape_of-w-then-is_tame
-shape_of-w-then-is_tame c = length-set c.fill_blocks.new.1.1.0 c.args.at _ ∙ long (goal.at.shape_of-w-then-is_tame c).After-slice_known-then-is_tame-2-1
+shape_of-w-then-is_tame c = length-set c.fill_blocks.new.w c.args.at _ ∙ long (goal.at.shape_of-w-then-is_tame c).After-slice_known-then-is_tame-2-1
 
 pub returns-then-is_tame : goal.returns-then-is_tame
 returns-then-is_tame c = let p = c.requires in

@@ -45,7 +45,7 @@ pub bounds-w-k-in-loop-k : goal.bounds-w-k-in-loop-k
 bounds-w-k-in-loop-k c = omega (arith, few (goal.at.bounds-w-k-in-loop-k c).In-loop-k, far (goal.at.bounds-w-k-in-loop-k c).In-loop-k)
 
 pub entry_of-requires : goal.entry_of-requires
-entry_of-requires c =  let p = c.requires in record { sides = p.sides; tame = p.tame; s_nonzero = p.s_nonzero.0; }
+entry_of-requires c = let p = c.requires in record { sides = p.sides; tame = p.tame; s_nonzero = p.s_nonzero.0 }
 
 pub float_from_bits-w : goal.float_from_bits-w
 float_from_bits-w c = no_nan_bits _ (omega (arith, c.entry_of.ensures.0))

@@ -26,7 +26,7 @@ pub loop-k-init : goal.loop-k-init
 loop-k-init c = going_none _ _ _ _
 
 pub sample_hit-requires : goal.sample_hit-requires
-sample_hit-requires c =  let p = c.requires in record { over = p.over; around = p.around; k_lt_n = omega (arith, c.loop-k-test.true, c.least-k-end.ensures); }
+sample_hit-requires c = let p = c.requires in record { over = p.over; around = p.around; k_lt_n = omega (arith, c.loop-k-test.true, c.least-k-end.ensures) }
 
 pub overflow_add-h : goal.overflow_add-h
 overflow_add-h c = let l = c.loop-k in

@@ -17,11 +17,11 @@ pub overflow_mul-b : goal.overflow_mul-b
 overflow_mul-b c = omega (arith, c.loop-b.invariant.0, c.requires.around.few)
 
 pub is_bare-requires : goal.is_bare-requires
-is_bare-requires c =  let p = c.requires in
-    let a = p.around in record { sides = p.over.sides; nx_in_bounds = (p.tiled.long, a.place, a.long); block_on = block_on c.args.g p.over.sides _ _ _ _ _ _ _ a _ c.loop-b-test.true; }
+is_bare-requires c = let p = c.requires in
+    let a = p.around in record { sides = p.over.sides; nx_in_bounds = (p.tiled.long, a.place, a.long); block_on = block_on c.args.g p.over.sides _ _ _ _ _ _ _ a _ c.loop-b-test.true }
 
 pub block_hits-h-requires : goal.block_hits-h-requires
-block_hits-h-requires c =  let p = c.requires in record { over = p.over; around = p.around; b_bound = c.loop-b-test.true; }
+block_hits-h-requires c = let p = c.requires in record { over = p.over; around = p.around; b_bound = c.loop-b-test.true }
 
 pub overflow_add-h : goal.overflow_add-h
 overflow_add-h c = let l = c.loop-b in

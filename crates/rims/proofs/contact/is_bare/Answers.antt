@@ -20,7 +20,7 @@ row c = c.requires.block_on.row c.if-b-lt255.true c.if-x-gt0.true
 
 -- its tile is one of those that are kept
 inside : (c : After-tiles_of) → (c.args.j + (block_at c.args.w.now c.args.at c.args.b - 1) / 4096) / 8 * c.tiles_of.result + (c.args.i + (block_at c.args.w.now c.args.at c.args.b - 1) % 4096) / 8 < length c.args.tiles.now
-inside c = omega (arith, tile_below c.args.g _ _ _ c.tiles_of.ensures (column c.before) (row c.before), c.requires.nx_in_bounds.0)
+inside c = omega (arith, tile_below c.args.g _ _ _ c.tiles_of.ensures ((let told : c.args.i + (block_at c.args.w.now c.args.at c.args.b - 1) % 4096 < c.args.g.nx = c.requires.block_on.column c.if-b-lt255.true c.if-x-gt0.true in told)) ((let told : c.args.j + (block_at c.args.w.now c.args.at c.args.b - 1) / 4096 < c.args.g.ny = c.requires.block_on.row c.if-b-lt255.true c.if-x-gt0.true in told)), c.requires.nx_in_bounds.0)
 
 pub float_to_bits-x : goal.float_to_bits-x
 float_to_bits-x c = c.requires.block_on.number c.if-b-lt255.true

@@ -19,7 +19,7 @@ row c =
 -- the sample's cell
 inside : (c : After-next_from-y) → let g = c.args.g in c.next_from-y.result * g.nx + c.next_from-x.result < g.ny * g.nx
 inside c =
-    cell-inside c.args.g c.requires.over.sides c.args.c c.args.r c.args.w.now c.args.n c.args.at c.args.i c.args.j c.requires.around c.args.k _ c.requires.k_lt_n (here c.before.before.before.before.before.before.before.before.before.before) _ _ c.next_from-x.ensures c.next_from-y.ensures
+    cell-inside c.args.g c.requires.over.sides c.args.c c.args.r c.args.w.now c.args.n c.args.at c.args.i c.args.j c.requires.around c.args.k _ c.requires.k_lt_n ((let told : word c.args.w.now (c.args.at + 1 + c.args.k) ≡ word c.args.w.now (c.args.at + 1 + c.args.k) - 1 + 1 = omega (arith, c.if-e-eq0.false) in told)) _ _ c.next_from-x.ensures c.next_from-y.ensures
 
 pub float_to_bits-e : goal.float_to_bits-e
 float_to_bits-e c = c.requires.around.entries.number c.args.k c.requires.k_lt_n

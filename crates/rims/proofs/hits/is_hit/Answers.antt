@@ -6,7 +6,7 @@ use borrow.Author.Rules.{rules}
 use Rattle.rims.proofs.hits.is_hit.Goals as goal
 
 pub returns : goal.returns
-returns c =    c.at.ensures
+returns c = c.at.ensures
     ∙ ap (stock_at c.args.g c.args.map.now)
     (rim-point c.args.c c.args.r c.args.n c.args.k _ _ _ _ (c.requires.rim.x c.args.k c.requires.k_lt_n) (c.requires.rim.y c.args.k c.requires.k_lt_n) c.scale.ensures
     c.add.ensures)

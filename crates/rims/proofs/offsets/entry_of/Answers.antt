@@ -11,10 +11,10 @@ few : (c : Then-is_fixed-2) → c.place_of-c.result * c.args.g.nx + c.place_of-a
 few c = entry-few c.args.g c.requires.sides _ _ (place-most _ _ _ _ _ c.place_of-a.ensures) (place-most _ _ _ _ _ c.place_of-c.ensures)
 
 pub is_fixed-requires : goal.is_fixed-requires
-is_fixed-requires c =     let p = c.requires in record { n_bound = p.sides.columns; s_bound = p.s_bound; a_bound = omega (arith, p.sides.columns, place-most _ _ _ _ c.place_of-a.result c.place_of-a.ensures); }
+is_fixed-requires c = let p = c.requires in record { n_bound = p.sides.columns; s_bound = p.s_bound; a_bound = omega (arith, p.sides.columns, place-most _ _ _ _ c.place_of-a.result c.place_of-a.ensures) }
 
 pub is_fixed-requires-then-is_fixed : goal.is_fixed-requires-then-is_fixed
-is_fixed-requires-then-is_fixed c =     let p = c.requires in record { n_bound = p.sides.rows; s_bound = p.s_bound; a_bound = omega (arith, p.sides.rows, place-most _ _ _ _ c.place_of-c.result c.place_of-c.ensures); }
+is_fixed-requires-then-is_fixed c = let p = c.requires in record { n_bound = p.sides.rows; s_bound = p.s_bound; a_bound = omega (arith, p.sides.rows, place-most _ _ _ _ c.place_of-c.result c.place_of-c.ensures) }
 
 pub overflow_mul-result : goal.overflow_mul-result
 overflow_mul-result c = omega (arith, few (goal.at.overflow_mul-result c).Then-is_fixed-2)
@@ -26,11 +26,11 @@ pub overflow_add-result-then-is_fixed-2 : goal.overflow_add-result-then-is_fixed
 overflow_add-result-then-is_fixed-2 c = omega (arith, few (goal.at.overflow_add-result-then-is_fixed-2 c).Then-is_fixed-2)
 
 pub returns-then-is_fixed-2 : goal.returns-then-is_fixed-2
-returns-then-is_fixed-2 c =    (
-      few (goal.at.returns-then-is_fixed-2 c).Then-is_fixed-2,
-      entry-is _ c.requires.sides _ _ _ _ c.scale-v.ensures _ _ (c.is_fixed.ensures c.if-is_fixed.true)
-          (c.is_fixed-then-is_fixed.ensures c.if-is_fixed-2.true),
-    )
+returns-then-is_fixed-2 c = (
+  few (goal.at.returns-then-is_fixed-2 c).Then-is_fixed-2,
+  entry-is _ c.requires.sides _ _ _ _ c.scale-v.ensures _ _ (c.is_fixed.ensures c.if-is_fixed.true)
+      (c.is_fixed-then-is_fixed.ensures c.if-is_fixed-2.true),
+)
 
 pub returns-else-is_fixed-2 : goal.returns-else-is_fixed-2
 returns-else-is_fixed-2 c = entry-none _ _ _ _

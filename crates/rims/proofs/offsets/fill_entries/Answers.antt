@@ -41,7 +41,7 @@ pub bounds-w-k-in-loop-k : goal.bounds-w-k-in-loop-k
 bounds-w-k-in-loop-k c = omega (arith, room (goal.at.bounds-w-k-in-loop-k c).In-loop-k, few (goal.at.bounds-w-k-in-loop-k c).In-loop-k)
 
 pub entry_of-requires : goal.entry_of-requires
-entry_of-requires c = record { sides = c.requires.sides; s_bound = c.reach_of-s.ensures.1; }
+entry_of-requires c = record { sides = c.requires.sides; s_bound = c.reach_of-s.ensures.1 }
 
 pub float_from_bits-w : goal.float_from_bits-w
 float_from_bits-w c = no_nan_bits c.entry_of.result (omega (arith, c.entry_of.ensures.0))
@@ -56,12 +56,12 @@ pub bounds-w-k-in-loop-k-2 : goal.bounds-w-k-in-loop-k-2
 bounds-w-k-in-loop-k-2 c = room (goal.at.bounds-w-k-in-loop-k-2 c).In-loop-k
 
 pub loop-k-preserved : goal.loop-k-preserved
-loop-k-preserved c =    let p = c.requires in
+loop-k-preserved c = let p = c.requires in
     begun-next _ _ _ _ p.n_bound p.in_bounds _ _ _ _ c.loop-k-test.true c.reach_of-s.ensures.0 c.entry_of.ensures c.loop-k.invariant
 
 pub shape_of-w : goal.shape_of-w
 shape_of-w c = c.loop-k.invariant.long
 
 pub returns : goal.returns
-returns c =    let p = c.requires in
+returns c = let p = c.requires in
     (c.loop-k.invariant.long, begun-end _ _ _ _ p.n_bound p.in_bounds _ _ c.loop-k-test.false c.loop-k.invariant)

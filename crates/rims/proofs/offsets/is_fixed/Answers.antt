@@ -20,7 +20,7 @@ pub returns-then-p-s : goal.returns-then-p-s
 returns-then-p-s c = λ t. never t
 
 pub loop-i-preserved : goal.loop-i-preserved
-loop-i-preserved c =    fixed_more _ _ _ _ _ _ _ _ _ _ c.loop-i.invariant c.middle_of.ensures refl c.place_of-p.ensures c.if-n-p.false
+loop-i-preserved c = fixed_more _ _ _ _ _ _ _ _ _ _ c.loop-i.invariant c.middle_of.ensures refl c.place_of-p.ensures c.if-n-p.false
     c.if-p-s.false
 
 pub returns : goal.returns

@@ -19,7 +19,7 @@ pub bounds-counts-c-in-loop-c : goal.bounds-counts-c-in-loop-c
 bounds-counts-c-in-loop-c c = omega (arith, c.loop-c.invariant.0.long, c.requires.countable.long)
 
 pub loop-c-preserved : goal.loop-c-preserved
-loop-c-preserved c =    let l = c.loop-c in
+loop-c-preserved c = let l = c.loop-c in
     (added_more _ _ _ _ _ _ l.invariant.0 (omega (arith, c.loop-c-test.true, c.requires.countable.long)) (λ h. ⊎_elim (λ w. w.1) (λ w. absurd (w.0.left h)) c.if-map-a-eq1.branch) (λ h. ⊎_elim (λ w. absurd (h w.0.taken)) (λ w. w.1) c.if-map-a-eq1.branch), omega (arith, c.loop-c-test.true))
 
 pub shape_of-counts : goal.shape_of-counts

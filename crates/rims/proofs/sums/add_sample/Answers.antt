@@ -27,8 +27,8 @@ pub overflow_add-base-2 : goal.overflow_add-base-2
 overflow_add-base-2 c = omega (arith, inside (goal.at.overflow_add-base-2 c).Start, c.requires.over.sides.cells)
 
 pub add_cells-requires : goal.add_cells-requires
-add_cells-requires c =     let p = c.requires.1.1.1.1 in record { a_in_bounds = omega (arith, inside (goal.at.add_cells-requires c).Start, c.requires.over.long); countable = summed_few c.args.g _ _ _ _ _ _ _ (omega (arith, p.0.0, c.requires.rims.entered.few)) p.1; }
+add_cells-requires c = let p = c.requires.1.1.1.1 in record { a_in_bounds = omega (arith, inside (goal.at.add_cells-requires c).Start, c.requires.over.long); countable = summed_few c.args.g _ _ _ _ _ _ _ (omega (arith, p.0.0, c.requires.rims.entered.few)) p.1 }
 
 pub returns : goal.returns
-returns c =    let p = c.requires.1.1.1 in
+returns c = let p = c.requires.1.1.1 in
     summed_more c.args.g _ _ _ p.0.0 p.0.1 _ _ _ c.args.w.now c.requires.rims c.requires.s_value _ _ _ p.1.0.0 refl p.1.0.1 refl _ _ p.1.1 c.add_cells.ensures

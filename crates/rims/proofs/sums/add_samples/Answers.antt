@@ -10,8 +10,8 @@ pub loop-k-init : goal.loop-k-init
 loop-k-init c = (summed_none _ _ _ _ _ _ _ c.requires.counts_value, omega arith)
 
 pub add_sample-requires : goal.add_sample-requires
-add_sample-requires c =     let p = c.requires in
-    let t = c.loop-k-test.true in record { over = p.over; rims = p.rims; s_value = p.s_value; roomy = p.roomy; k_lt_n = (t, (p.rims.all p.nonzero).at _ t); summed = c.loop-k.invariant.0; }
+add_sample-requires c = let p = c.requires in
+    let t = c.loop-k-test.true in record { over = p.over; rims = p.rims; s_value = p.s_value; roomy = p.roomy; k_lt_n = (t, (p.rims.all p.nonzero).at _ t); summed = c.loop-k.invariant.0 }
 
 pub overflow_step-k : goal.overflow_step-k
 overflow_step-k c = omega (arith, c.loop-k-test.true)

@@ -12,7 +12,7 @@ pub overflow_add-i : goal.overflow_add-i
 overflow_add-i c = omega (arith, (c.is_roomy.ensures c.if-is_roomy.true).right, c.requires.over.sides.columns)
 
 pub add_samples-requires : goal.add_samples-requires
-add_samples-requires c =     let p = c.requires in record { over = p.over; rims = p.rims; s_value = c.reach_of-s.ensures.0; roomy = (c.is_roomy.ensures c.if-is_roomy.true, c.is_roomy-then-is_roomy.ensures c.if-is_roomy-2.true); nonzero = omega (arith, c.if-w-ne0.true); counts_value = p.counts_value; }
+add_samples-requires c = let p = c.requires in record { over = p.over; rims = p.rims; s_value = c.reach_of-s.ensures.0; roomy = (c.is_roomy.ensures c.if-is_roomy.true, c.is_roomy-then-is_roomy.ensures c.if-is_roomy-2.true); nonzero = omega (arith, c.if-w-ne0.true); counts_value = p.counts_value }
 
 pub returns-then-is_roomy-2 : goal.returns-then-is_roomy-2
 returns-then-is_roomy-2 c = let e = c.add_samples.ensures in (e.0, λ _. e.1)

@@ -7,7 +7,7 @@ pub overflow_add-k-end : goal.overflow_add-k-end
 overflow_add-k-end c = omega (arith, c.requires.b_nonzero)
 
 pub is_first-requires : goal.is_first-requires
-is_first-requires c =  let p = c.requires in record { cell_value = p.cell_value; b_nonzero = (omega (arith, p.b_nonzero.0, c.loop-k.invariant), omega (arith, p.b_nonzero.1, c.loop-k-test.true)); }
+is_first-requires c = let p = c.requires in record { cell_value = p.cell_value; b_nonzero = (omega (arith, p.b_nonzero.0, c.loop-k.invariant), omega (arith, p.b_nonzero.1, c.loop-k-test.true)) }
 
 pub returns-then-is_first : goal.returns-then-is_first
 returns-then-is_first c = (omega (arith, c.requires.b_nonzero.1, c.loop-k-test.true), λ h. c.is_first.ensures c.if-is_first.true)

@@ -17,11 +17,11 @@ pub overflow_add-y : goal.overflow_add-y
 overflow_add-y c = let p = c.requires in omega (arith, p.y_bound.0, few_tiles _ p.over.sides.rows)
 
 pub gather_rows-requires : goal.gather_rows-requires
-gather_rows-requires c =     let p = c.requires in record { over = p.over; nx_in_bounds = p.over.sides.columns; }
+gather_rows-requires c = let p = c.requires in record { over = p.over; nx_in_bounds = p.over.sides.columns }
 
 pub mark_row-requires : goal.mark_row-requires
-mark_row-requires c =    (omega (arith, c.tiles_of.ensures, few_tiles _ c.requires.over.sides.columns, c.gather_rows.ensures.0.long), subst (λ (n : ℕ). c.args.y * n + n ≤ length c.args.tiles.now) (sym c.tiles_of.ensures) (omega (arith, tiles_row c.args.g c.requires.over.sides c.args.y c.requires.y_bound.0, c.requires.y_bound.1)))
+mark_row-requires c = (omega (arith, c.tiles_of.ensures, few_tiles _ c.requires.over.sides.columns, c.gather_rows.ensures.0.long), subst (λ (n : ℕ). c.args.y * n + n ≤ length c.args.tiles.now) (sym c.tiles_of.ensures) (omega (arith, tiles_row c.args.g c.requires.over.sides c.args.y c.requires.y_bound.0, c.requires.y_bound.1)))
 
 pub returns : goal.returns
-returns c =    let m = c.mark_row.ensures in
+returns c = let m = c.mark_row.ensures in
     (m.0, stock-row _ _ _ _ _ _ c.tiles_of.ensures c.gather_rows.ensures.1 m.1)

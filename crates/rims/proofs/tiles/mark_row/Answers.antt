@@ -15,7 +15,7 @@ pub mark-requires : goal.mark-requires
 mark-requires c = (c.loop-x-test.true, omega (arith, c.loop-x.invariant.0.long, c.requires.1))
 
 pub loop-x-preserved : goal.loop-x-preserved
-loop-x-preserved c =    let s = c.args in
+loop-x-preserved c = let s = c.args in
     let l = c.loop-x in
     let Next : List ℕ → Type 0 = λ t. Keeps s.tiles.now t × ColumnsMarked s.n s.y s.cols.now (l.x + 1) t in
     ⊎_elim (λ w. subst Next (sym w.5) (columns-yes _ _ _ _ _ _ _ w.2.ensures l.invariant)) (λ w. subst Next (sym w.1) (columns-no _ _ _ _ _ _ (sym c.has_stock.ensures ∙ w.0.left) l.invariant)) c.if-has_stock.branch

@@ -19,7 +19,7 @@ pub loop-k-init : goal.loop-k-init
 loop-k-init c = going_none _ _ _ _
 
 pub average_at-prev-requires : goal.average_at-prev-requires
-average_at-prev-requires c = record { k_lt_n = c.loop-k-test.true; n_in_bounds = omega (arith, c.requires.n_in_bounds, long (goal.at.average_at-prev-requires c).At-loop-k); }
+average_at-prev-requires c = record { k_lt_n = c.loop-k-test.true; n_in_bounds = omega (arith, c.requires.n_in_bounds, long (goal.at.average_at-prev-requires c).At-loop-k) }
 
 pub loop-k-preserved : goal.loop-k-preserved
 loop-k-preserved c = going_more _ _ _ _ _ _ _ c.loop-k.invariant c.loop-k-test.true c.average_at-prev.ensures
@@ -28,4 +28,4 @@ pub shape_of-pts : goal.shape_of-pts
 shape_of-pts c = long (goal.at.shape_of-pts c).At-loop-k
 
 pub returns : goal.returns
-returns c =    average_is _ _ _ c.requires.n_in_bounds _ _ c.vertex-first.ensures c.vertex-prev.ensures _ (going_end _ _ _ _ _ _ c.loop-k.invariant c.loop-k-test.false)
+returns c = average_is _ _ _ c.requires.n_in_bounds _ _ c.vertex-first.ensures c.vertex-prev.ensures _ (going_end _ _ _ _ _ _ c.loop-k.invariant c.loop-k-test.false)

@@ -14,7 +14,7 @@ pub returns-then-same : goal.returns-then-same
 returns-then-same c = resample_same _ _ _ _ _ _ c.requires.lt_n c.requires.n_in_bounds c.keep-kept.ensures c.if-closed.false _ _ _ c.vertex-last.ensures c.vertex-end.ensures c.same.ensures c.if-same.true
 
 pub put-requires : goal.put-requires
-put-requires c =    let room = resample_room _ _ _ _ _ _ c.requires.lt_n c.requires.n_in_bounds c.keep-kept.ensures c.if-closed.false _ _ _ c.vertex-last.ensures c.vertex-end.ensures c.same.ensures c.if-same.false in
+put-requires c = let room = resample_room _ _ _ _ _ _ c.requires.lt_n c.requires.n_in_bounds c.keep-kept.ensures c.if-closed.false _ _ _ c.vertex-last.ensures c.vertex-end.ensures c.same.ensures c.if-same.false in
     omega (arith, room, c.requires.n_in_bounds, c.keep-kept.ensures.long)
 
 pub returns : goal.returns

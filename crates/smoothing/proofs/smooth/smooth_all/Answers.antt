@@ -9,11 +9,11 @@ pub loop-k-init : goal.loop-k-init
 loop-k-init c = smoothed-none _ _ _ _ c.requires
 
 pub smooth_row-requires : goal.smooth_row-requires
-smooth_row-requires c =     let l = c.loop-k in
-    let h = c.loop-k-test.true in record { k_in_bounds = omega (arith, h, l.invariant.laid.lent); k_in_bounds_2 = l.invariant.laid.inside l.k h; bounds = c.bound_of-bound.ensures.decides; }
+smooth_row-requires c = let l = c.loop-k in
+    let h = c.loop-k-test.true in record { k_in_bounds = omega (arith, h, l.invariant.laid.lent); k_in_bounds_2 = l.invariant.laid.inside l.k h; bounds = c.bound_of-bound.ensures.decides }
 
 pub loop-k-preserved : goal.loop-k-preserved
-loop-k-preserved c =    let l = c.loop-k in
+loop-k-preserved c = let l = c.loop-k in
     let s = c.smooth_row.ensures in
     smoothed_more _ _ _ _ l.k l.rows l.pts _ _ _ c.loop-k-test.true l.invariant s.rows_after s.smoothed_row
 

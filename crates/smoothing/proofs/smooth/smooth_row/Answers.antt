@@ -10,11 +10,11 @@ use borrow.Author.Rules.{rules}
 use Rattle.smoothing.proofs.smooth.smooth_row.Goals as goal
 
 pub slice_bounds-smooth-end : goal.slice_bounds-smooth-end
-slice_bounds-smooth-end c =    let a = c.args in
+slice_bounds-smooth-end c = let a = c.args in
     let h : 2 * end_of c.row_at-p.result ≤ length a.pts.now = subst (λ (p : Row). 2 * end_of p ≤ length a.pts.now) (sym c.row_at-p.ensures) c.requires.k_in_bounds_2 in
     omega (arith, h)
 
 pub returns : goal.returns
-returns c =     let a = c.args in
+returns c = let a = c.args in
     let p = c.row_at-p in
-    let m = c.smooth-m in record { rows_after = c.put_row.ensures ∙ ap (λ (q : Row). put_row a.k (cut_to m.result q) a.rows.now) p.ensures; smoothed_row = read-smoothed _ _ _ _ _ _ p.ensures c.requires.k_in_bounds_2 m.ensures; }
+    let m = c.smooth-m in record { rows_after = c.put_row.ensures ∙ ap (λ (q : Row). put_row a.k (cut_to m.result q) a.rows.now) p.ensures; smoothed_row = read-smoothed _ _ _ _ _ _ p.ensures c.requires.k_in_bounds_2 m.ensures }

@@ -35,7 +35,7 @@ pub loop-i-smaller : goal.loop-i-smaller
 loop-i-smaller c = omega (arith, c.loop-i-test.true)
 
 pub loop-i-preserved : goal.loop-i-preserved
-loop-i-preserved c =    λ t.
+loop-i-preserved c = λ t.
     let w = c.narrowed-b.ensures t in
     least_more _ _ _ _ _ _ _ (least-is _ _ _ _ _ _ c.beyond.ensures c.below.ensures c.span.ensures) (c.loop-i.invariant w.known) w
 

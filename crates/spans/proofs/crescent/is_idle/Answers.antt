@@ -13,5 +13,5 @@ pub is_bare-requires : goal.is_bare-requires
 is_bare-requires c = row_below _ _ _ _ c.requires.y_lt_ny c.requires.over.long
 
 pub returns : goal.returns
-returns c =    λ t.
+returns c = λ t.
     idle-is _ _ _ _ _ _ _ c.outer-o.result c.inner-n.result c.requires.over.sides refl c.outer-o.ensures c.inner-n.ensures (c.is_bare.ensures t)

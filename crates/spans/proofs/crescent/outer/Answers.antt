@@ -15,10 +15,10 @@ pub overflow_sub-q : goal.overflow_sub-q
 overflow_sub-q c = (near (goal.at.overflow_sub-q c).Else-k-j).0
 
 pub word_at-requires : goal.word_at-requires
-word_at-requires c = 
+word_at-requires c =
     let r = outer-read _ _ _ _ c.requires.spanning.0 c.requires.spanning.1 _ (near (goal.at.word_at-requires c).Else-k-j).1 in
-    record { k_in_bounds = r.0; t = r.1; }
+    record { k_in_bounds = r.0; t = r.1 }
 
 pub returns : goal.returns
-returns c =    let n = near (goal.at.returns c).Else-k-j in
+returns c = let n = near (goal.at.returns c).Else-k-j in
     outer-is _ _ _ _ c.requires.spanning.0 c.requires.spanning.1 _ _ _ _ c.requires.placed n.0 n.1 c.word_at.result _ c.limits.ensures.0 c.limits.ensures.1 c.word_at.ensures

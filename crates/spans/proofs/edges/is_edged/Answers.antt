@@ -6,7 +6,7 @@ use borrow.Author.Rules.{rules}
 use Rattle.spans.proofs.edges.is_edged.Goals as goal
 
 pub returns : goal.returns
-returns c =    λ t.
+returns c = λ t.
     let p = both _ _ t in
     let f = both _ _ p.0 in
     let u = both _ _ p.1 in

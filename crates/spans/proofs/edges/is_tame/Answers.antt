@@ -5,7 +5,7 @@ use borrow.Author.Rules.{rules}
 use Rattle.spans.proofs.edges.is_tame.Goals as goal
 
 pub returns-then-are_edged : goal.returns-then-are_edged
-returns-then-are_edged c =    λ t.
+returns-then-are_edged c = λ t.
     let p = both _ _ c.if-corner-positive.true in
     let o = both _ _ p.0 in
     let s = both _ _ p.1 in

@@ -22,7 +22,7 @@ pub small_of-requires : goal.small_of-requires
 small_of-requires c = tested (goal.at.small_of-requires c).Then-is_finite
 
 pub returns-then-is_finite : goal.returns-then-is_finite
-returns-then-is_finite c =    λ t.
+returns-then-is_finite c = λ t.
     high_is _ _ _ _ _ _ c.requires.r2_value c.requires.lo_value.0 c.requires.lo_value.1 (sym c.is_finite.ensures ∙ (both _ _ c.if-is_finite.true).0) c.big_of.ensures c.small_of.ensures
 
 pub returns : goal.returns

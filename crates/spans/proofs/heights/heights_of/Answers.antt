@@ -36,7 +36,7 @@ pub row_y-requires : goal.row_y-requires
 row_y-requires c = tt
 
 pub height-requires : goal.height-requires
-height-requires c =     let k = c.requires.tame.rows.at c.loop-j.j (omega (arith, c.loop-j.invariant.0, c.requires.s_nonzero.0)) (omega (arith, inside (goal.at.height-requires c).In-loop-j)) in record { r2_value = c.requires.r2_value; lo_value = (subst (λ (x : Float). is_finite x ≡ true) (sym c.below-lo.ensures) k.below_finite, subst (λ (x : Float). is_finite x ≡ true) (sym c.beyond-hi.ensures) k.beyond_finite); }
+height-requires c = let k = c.requires.tame.rows.at c.loop-j.j (omega (arith, c.loop-j.invariant.0, c.requires.s_nonzero.0)) (omega (arith, inside (goal.at.height-requires c).In-loop-j)) in record { r2_value = c.requires.r2_value; lo_value = (subst (λ (x : Float). is_finite x ≡ true) (sym c.below-lo.ensures) k.below_finite, subst (λ (x : Float). is_finite x ≡ true) (sym c.beyond-hi.ensures) k.beyond_finite) }
 
 pub joined-h-requires : goal.joined-h-requires
 joined-h-requires c = tt
@@ -48,7 +48,7 @@ pub loop-j-smaller : goal.loop-j-smaller
 loop-j-smaller c = omega (arith, c.loop-j-test.true)
 
 pub loop-j-preserved : goal.loop-j-preserved
-loop-j-preserved c =    let at = c.loop-j.invariant in
+loop-j-preserved c = let at = c.loop-j.invariant in
     (omega (arith, at.0), high-turn _ _ _ _ _ _ _ _ _ _ _ c.joined-h.ensures c.row_y.ensures c.below-lo.ensures c.beyond-hi.ensures c.height.ensures at.1)
 
 pub returns : goal.returns

@@ -16,14 +16,14 @@ pub overflow_mul-base : goal.overflow_mul-base
 overflow_mul-base c = omega (arith, row_below _ _ _ _ c.requires.y_lt_ny c.requires.over.long, c.well_formed)
 
 pub clear_span_logged-n-requires : goal.clear_span_logged-n-requires
-clear_span_logged-n-requires c =     let p = c.requires in
-    let g = c.args.g in record { inside = in_map _ g.ny g.nx _ _ refl p.y_lt_ny p.over.long c.crescent_row-p.result.left (both (goal.at.clear_span_logged-n-requires c).After-crescent_row-p).0; ready = p.ready; }
+clear_span_logged-n-requires c = let p = c.requires in
+    let g = c.args.g in record { inside = in_map _ g.ny g.nx _ _ refl p.y_lt_ny p.over.long c.crescent_row-p.result.left (both (goal.at.clear_span_logged-n-requires c).After-crescent_row-p).0; ready = p.ready }
 
 pub clear_span_logged-requires : goal.clear_span_logged-requires
-clear_span_logged-requires c =     let p = c.requires in
+clear_span_logged-requires c = let p = c.requires in
     let g = c.args.g in
     let e = c.clear_span_logged-n.ensures in
-    let q = span_kept _ _ _ _ p.ready e in record { inside = in_map _ g.ny g.nx _ _ refl p.y_lt_ny (le_same p.over.long q.cells-long) c.crescent_row-p.result.right (both (goal.at.clear_span_logged-requires c).After-crescent_row-p).1; ready = ready-kept _ _ p.ready q; }
+    let q = span_kept _ _ _ _ p.ready e in record { inside = in_map _ g.ny g.nx _ _ refl p.y_lt_ny (le_same p.over.long q.cells-long) c.crescent_row-p.result.right (both (goal.at.clear_span_logged-requires c).After-crescent_row-p).1; ready = ready-kept _ _ p.ready q }
 
 pub returns : goal.returns
-returns c =    crescent-row-is _ _ _ _ c.args.r _ _ _ _ _ _ refl c.crescent_row-p.ensures c.clear_span_logged-n.ensures c.clear_span_logged.ensures
+returns c = crescent-row-is _ _ _ _ c.args.r _ _ _ _ _ _ refl c.crescent_row-p.ensures c.clear_span_logged-n.ensures c.clear_span_logged.ensures

@@ -10,7 +10,7 @@ pub returns-then-has_stock : goal.returns-then-has_stock
 returns-then-has_stock c = never
 
 pub returns : goal.returns
-returns c =    λ t.
+returns c = λ t.
     let s = c.args in
     bare-is _ s.base s.nx s.o s.n _ _ _ _ _ c.end_of-e.ensures c.least-a.ensures c.least-m.ensures c.end_of.ensures
     c.greatest-b.ensures (sym c.has_stock.ensures ∙ c.if-has_stock.false) (sym c.has_stock-2.ensures ∙ not-true _ t)

@@ -19,7 +19,7 @@ pub packed-requires-then-h-o : goal.packed-requires-then-h-o
 packed-requires-then-h-o c = c.is_small-2.ensures (tested (goal.at.packed-requires-then-h-o c).Then-h-o).3
 
 pub returns-then-h-o : goal.returns-then-h-o
-returns-then-h-o c =    λ t.
+returns-then-h-o c = λ t.
     let p = tested (goal.at.returns-then-h-o c).Then-h-o in
     let s = c.requires in
     row_told _ _ _ _ s.sides s.tame s.s_nonzero.0 c.heights_of-h.result (c.heights_of-h.ensures p.0) c.outer_of-o.result c.inner_of-n.result (c.outer_of-o.ensures p.1)

@@ -17,7 +17,7 @@ room c = omega (arith, c.loop-q-test.true, c.requires.s_nonzero, c.loop-q.invari
 
 told : (c : After-struct_known-in-loop-q-1)
     → let s = c.args in RowTold s.g s.r s.s c.loop-q.q c.row-p.result
-told c = c.row-p.ensures c.if-not-p.false
+told c = c.row-p.ensures (not-false _ c.if-not-p.false)
 
 pub overflow_mul-q-end : goal.overflow_mul-q-end
 overflow_mul-q-end c = omega (arith, c.requires.s_nonzero)
@@ -29,7 +29,7 @@ pub loop-q-init : goal.loop-q-init
 loop-q-init c = (refl, entries_none _ _ _ _)
 
 pub row-p-requires : goal.row-p-requires
-row-p-requires c =  let p = c.requires in record { sides = p.sides; tame = p.tame; r_value = p.r_value; s_nonzero = (p.s_nonzero.0, p.s_nonzero.1, omega (arith, c.loop-q-test.true)); }
+row-p-requires c = let p = c.requires in record { sides = p.sides; tame = p.tame; r_value = p.r_value; s_nonzero = (p.s_nonzero.0, p.s_nonzero.1, omega (arith, c.loop-q-test.true)) }
 
 pub shape_of-t-then-not-p : goal.shape_of-t-then-not-p
 shape_of-t-then-not-p c = c.loop-q.invariant.0
@@ -65,7 +65,7 @@ pub offset_bounds-t-q-in-loop-q : goal.offset_bounds-t-q-in-loop-q
 offset_bounds-t-q-in-loop-q c = omega (arith, room (goal.at.offset_bounds-t-q-in-loop-q c).After-struct_known-in-loop-q-1)
 
 pub bounds-t-q-in-loop-q : goal.bounds-t-q-in-loop-q
-bounds-t-q-in-loop-q c =    let k = c.loop-q in
+bounds-t-q-in-loop-q c = let k = c.loop-q in
     omega (arith, room (goal.at.bounds-t-q-in-loop-q c).After-struct_known-in-loop-q-1, length-set k.t (2 * k.q + 1) (of_bits binary64 c.row-p.result.outer))
 
 pub overflow_step-q : goal.overflow_step-q
@@ -75,7 +75,7 @@ pub loop-q-smaller : goal.loop-q-smaller
 loop-q-smaller c = omega (arith, c.loop-q-test.true)
 
 pub loop-q-preserved : goal.loop-q-preserved
-loop-q-preserved c =    let k = c.loop-q in
+loop-q-preserved c = let k = c.loop-q in
     (words_long k.t _ _ _ _ ∙ k.invariant.0, entries_more _ _ _ _ _ _ (room (goal.at.loop-q-preserved c).After-struct_known-in-loop-q-1) k.invariant.1 (told (goal.at.loop-q-preserved c).After-struct_known-in-loop-q-1))
 
 pub shape_of-t : goal.shape_of-t

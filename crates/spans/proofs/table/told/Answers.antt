@@ -6,10 +6,10 @@ use borrow.Author.Rules.{rules}
 use Rattle.spans.proofs.table.told.Goals as goal
 
 pub rows-requires : goal.rows-requires
-rows-requires c =     let p = both c.is_tame.result c.is_finite.result c.if-is_tame-is_finite.true in record { sides = c.requires.sides; tame = c.is_tame.ensures p.0; r_value = sym c.is_finite.ensures ∙ p.1; s_nonzero = (c.requires.s_nonzero, c.if-s-le65536.true, c.if-s-t.true); }
+rows-requires c = let p = both c.is_tame.result c.is_finite.result c.if-is_tame-is_finite.true in record { sides = c.requires.sides; tame = c.is_tame.ensures p.0; r_value = sym c.is_finite.ensures ∙ p.1; s_nonzero = (c.requires.s_nonzero, c.if-s-le65536.true, c.if-s-t.true) }
 
 pub returns-then-is_tame-is_finite : goal.returns-then-is_tame-is_finite
-returns-then-is_tame-is_finite c =    let r = c.rows.ensures in
+returns-then-is_tame-is_finite c = let r = c.rows.ensures in
     (r.0, λ t. (c.if-s-le65536.true, omega (arith, c.if-s-t.true, r.0), r.1 t))
 
 pub returns-else-is_tame-is_finite : goal.returns-else-is_tame-is_finite

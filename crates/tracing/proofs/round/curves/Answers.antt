@@ -18,5 +18,5 @@ returns c =     let p = c.requires in
     let e = c.trace-c.ensures in
     let f = c.smooth.ensures in
     let N = c.cells-n.ensures in
-    let s = c.args.s in record { lies = subst (λ (l : List Piece). Lies (cells_of s) l c.trace-c.result.pieces c.smooth.new.1.1.1.0 c.smooth.new.1.1.1.1.0) (curves_are s _ _ _ _ N c.level.ensures refl)
+    let s = c.args.s in record { lies = subst (λ (l : List Piece). Lies (cells_of s) l c.trace-c.result.pieces c.smooth.new.u c.smooth.new.w) (curves_are s _ _ _ _ N c.level.ensures refl)
           (curves_lie s _ _ _ p.sides p.room _ _ _ _ _ _ e.laying e.beside _ N _ _ _ f.only f.only_2 f.lies); beside = curves_beside s _ _ _ p.sides p.room _ _ _ _ _ _ e.laying e.beside _ N s.grid.cell _ _ f.only f.only_2; }
