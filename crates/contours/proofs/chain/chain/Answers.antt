@@ -88,9 +88,6 @@ loop-g-init c =    record {
 pub next_of-n-requires : goal.next_of-n-requires
 next_of-n-requires c = let p = c.requires.chaining in omega (arith, (follows (goal.at.next_of-n-requires c).At-loop-g).walked.here, p.next-long, p.marks-long)
 
-pub is_nothing-requires : goal.is_nothing-requires
-is_nothing-requires c = tt
-
 pub shape_of-marks-then-is_nothing : goal.shape_of-marks-then-is_nothing
 shape_of-marks-then-is_nothing c = (follows (goal.at.shape_of-marks-then-is_nothing c).At-loop-g).walked.long
 
@@ -99,9 +96,6 @@ shape_of-pts-then-is_nothing c = (follows (goal.at.shape_of-pts-then-is_nothing 
 
 pub returns-then-is_nothing : goal.returns-then-is_nothing
 returns-then-is_nothing c = out_open _ _ _ _ _ _ c.requires.chaining.room _ _ _ _ (follows (goal.at.returns-then-is_nothing c).At-loop-g) (is_none (goal.at.returns-then-is_nothing c).Then-is_nothing)
-
-pub same_edge-requires : goal.same_edge-requires
-same_edge-requires c = tt
 
 pub shape_of-marks-then-same_edge : goal.shape_of-marks-then-same_edge
 shape_of-marks-then-same_edge c = (follows (goal.at.shape_of-marks-then-same_edge c).At-loop-g).walked.long

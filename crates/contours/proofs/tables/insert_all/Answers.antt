@@ -43,17 +43,11 @@ overflow_add-i c = let h = room (goal.at.overflow_add-i c).In-loop-k in omega (a
 pub edge_at-to-requires : goal.edge_at-to-requires
 edge_at-to-requires c = let h = room (goal.at.edge_at-to-requires c).In-loop-k in omega (arith, h.0, h.1, h.2)
 
-pub index_of_edge-requires : goal.index_of_edge-requires
-index_of_edge-requires c = tt
-
 pub overflow_add-next : goal.overflow_add-next
 overflow_add-next c = let h = room (goal.at.overflow_add-next c).In-loop-k in omega (arith, h.1, h.2, (below (goal.at.overflow_add-next c).In-loop-k).from, from_is (goal.at.overflow_add-next c).After-index_of_edge, c.next_at-next.ensures)
 
 pub put_edge-requires : goal.put_edge-requires
 put_edge-requires c = let h = room (goal.at.put_edge-requires c).In-loop-k in omega (arith, h.1, h.2, (below (goal.at.put_edge-requires c).In-loop-k).from, from_is (goal.at.put_edge-requires c).After-index_of_edge, c.next_at-next.ensures)
-
-pub index_of_edge-requires-in-loop-k : goal.index_of_edge-requires-in-loop-k
-index_of_edge-requires-in-loop-k c = tt
 
 pub bounds-marks-index_of_edge : goal.bounds-marks-index_of_edge
 bounds-marks-index_of_edge c = let h = room (goal.at.bounds-marks-index_of_edge c).In-loop-k in omega (arith, h.1, h.3, (below (goal.at.bounds-marks-index_of_edge c).In-loop-k).to, c.index_of_edge-in-loop-k.ensures, ap (λ (e : EdgeNo). e.0) c.edge_at-to.ensures)

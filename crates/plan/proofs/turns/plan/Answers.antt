@@ -6,9 +6,6 @@ use borrow.Author.Rules.{rules}
 use Rattle.plan.proofs.TurnsLaws.{Planning, planning_none, round_asked, plan_spent, plan_ends, planning_more, plan_next, plan_done, plan_refused}
 use Rattle.plan.proofs.turns.plan.Goals as goal
 
-pub first-p-requires : goal.first-p-requires
-first-p-requires c = tt
-
 pub loop-k-init : goal.loop-k-init
 loop-k-init c = planning_none c.args.s c.args.vs.now c.args.lens.now c.args.pref c.args.b.now c.args.u.now c.args.f.now c.args.w.now c.args.triples.now c.args.rows.now c.requires.standing c.requires.listed c.first-p.result c.first-p.ensures
 

@@ -7,9 +7,6 @@ use Rattle.rims.specs.Boxes.{EdgesTo}
 use Rattle.rims.proofs.BoxLaws.{edges_none, edges_more, edges-end}
 use Rattle.rims.proofs.boxes.are_near.Goals as goal
 
-pub end_with-i-end-requires : goal.end_with-i-end-requires
-end_with-i-end-requires c = tt
-
 pub loop-i-init : goal.loop-i-init
 loop-i-init c = (edges_none _ _ _ _ _ _, omega arith)
 

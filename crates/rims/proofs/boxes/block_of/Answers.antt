@@ -19,18 +19,6 @@ float_to_bits-x c = c.requires.at _ zero-le c.loop-k-test.true
 pub returns-then-x-eq0 : goal.returns-then-x-eq0
 returns-then-x-eq0 c = block_none _ _ _
 
-pub least-a-requires : goal.least-a-requires
-least-a-requires c = tt
-
-pub greatest-b-requires : goal.greatest-b-requires
-greatest-b-requires c = tt
-
-pub least-c-requires : goal.least-c-requires
-least-c-requires c = tt
-
-pub greatest-d-requires : goal.greatest-d-requires
-greatest-d-requires c = tt
-
 pub overflow_step-k : goal.overflow_step-k
 overflow_step-k c = omega (arith, c.loop-k-test.true)
 

@@ -8,19 +8,14 @@ use Rattle.rims.proofs.FirstLaws.{apart_none, apart-set}
 use Rattle.rims.proofs.BlockLaws.{numbers_part, numbers-before, block_part, block-at, blocks-none, blocks_more, blocks_end}
 use borrow.Author.Rules.{rules}
 use Rattle.rims.proofs.boxes.fill_blocks.Goals as goal
+use Rattle.rims.proofs.boxes.fill_blocks.Goals.{After-least-in-loop-b}
 
 -- where the block's entries end
-ends : (c : tie.After-w invariant-loop decreases-loop) → c.before.before.before.before.before.before.args.at + 1 + c.before.least2.result ≤ length c.before.before.before.before.loop.w
-ends c = let p = c.before.before.before.before.before.before.requires in omega (arith, c.before.least2.ensures, c.before.before.before.before.loop.invariant.0.long, p.0.0, p.0.1)
+ends : (c : After-least-in-loop-b) → c.args.at + 1 + c.least-in-loop-b.result ≤ length c.loop-b.w
+ends c = let p = c.requires in omega (arith, c.least-in-loop-b.ensures, c.loop-b.invariant.0.long, p.n_bound.0, p.n_bound.1)
 
 pub loop-b-init : goal.loop-b-init
 loop-b-init c = (apart_none _ _ _, blocks-none _ _ c.requires.n_bound.0 _)
-
-pub least-requires : goal.least-requires
-least-requires c = tt
-
-pub least-requires-in-loop-b : goal.least-requires-in-loop-b
-least-requires-in-loop-b c = tt
 
 pub slice_bounds-block_of-end : goal.slice_bounds-block_of-end
 slice_bounds-block_of-end c = ends (goal.at.slice_bounds-block_of-end c).After-least-in-loop-b

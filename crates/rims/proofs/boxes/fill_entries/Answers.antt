@@ -60,11 +60,10 @@ pub loop-k-smaller : goal.loop-k-smaller
 loop-k-smaller c = omega (arith, c.loop-k-test.true)
 
 pub loop-k-preserved : goal.loop-k-preserved
-loop-k-preserved c = let p = c.requires.1.1 in
-    let l = c.loop-k in (
-      apart-set _ _ _ l.w _ _ (omega arith) (omega (arith, few (goal.at.loop-k-preserved c).In-loop-k)) l.invariant.0,
-      entries_next c.args.g c.args.r c.args.n c.args.at c.args.s l.k c.args.w.now l.w _ (room (goal.at.loop-k-preserved c).In-loop-k) (omega (arith, p.1.1, p.1.2)) c.loop-k-test.true p.0 l.invariant.0 c.entry_of.ensures l.invariant.1,
-    )
+loop-k-preserved c = let l = c.loop-k in (
+  apart-set _ _ _ l.w _ _ (omega arith) (omega (arith, few (goal.at.loop-k-preserved c).In-loop-k)) l.invariant.0,
+  entries_next c.args.g c.args.r c.args.n c.args.at c.args.s l.k c.args.w.now l.w _ (room (goal.at.loop-k-preserved c).In-loop-k) (omega (arith, c.requires.s_nonzero.1, c.requires.s_nonzero.2)) c.loop-k-test.true c.requires.rim l.invariant.0 c.entry_of.ensures l.invariant.1,
+)
 
 pub shape_of-w : goal.shape_of-w
 shape_of-w c = c.loop-k.invariant.0.long

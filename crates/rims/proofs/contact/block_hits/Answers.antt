@@ -9,18 +9,16 @@ use Rattle.raster.specs.Contact.{hit_at}
 use Rattle.raster.proofs.ContactLaws.{hit_yes, hit_no}
 use Rattle.rims.proofs.HitLaws.{hits_few}
 use Rattle.rims.proofs.contact.block_hits.Goals as goal
+use Rattle.rims.proofs.contact.block_hits.Goals.{else-sample_hit, then-sample_hit}
 
 pub overflow_step-k : goal.overflow_step-k
-overflow_step-k c = let p = c.requires.1 in omega (arith, p.1, p.0.few)
+overflow_step-k c = omega (arith, c.requires.b_bound, c.requires.around.few)
 
 pub overflow_mul-b : goal.overflow_mul-b
-overflow_mul-b c = let p = c.requires.1 in omega (arith, p.1, p.0.few)
+overflow_mul-b c = omega (arith, c.requires.b_bound, c.requires.around.few)
 
 pub overflow_add-b : goal.overflow_add-b
-overflow_add-b c = let p = c.requires.1 in omega (arith, p.1, p.0.few)
-
-pub least-k-end-requires : goal.least-k-end-requires
-least-k-end-requires c = tt
+overflow_add-b c = omega (arith, c.requires.b_bound, c.requires.around.few)
 
 pub loop-k-init : goal.loop-k-init
 loop-k-init c = going_none _ _ _ _
@@ -34,7 +32,7 @@ overflow_add-h c = let l = c.loop-k in
 
 pub loop-k-preserved : goal.loop-k-preserved
 loop-k-preserved c = going_more _ _ _ _ _ _ _ c.loop-k.invariant c.loop-k-test.true
-    (⊎_elim (λ w. w.1 ∙ hit_yes _ _ _ _ _ _ _ (sym c.sample_hit.ensures ∙ w.0.taken)) (λ w. w.1 ∙ hit_no _ _ _ _ _ _ _ (sym c.sample_hit.ensures ∙ w.0.left)) c.if-sample_hit.branch)
+    (elim c.if-sample_hit.branch [ then-sample_hit w ↦ w.h-is ∙ hit_yes _ _ _ _ _ _ _ (sym c.sample_hit.ensures ∙ w.if-sample_hit.true) | else-sample_hit w ↦ w.h-is ∙ hit_no _ _ _ _ _ _ _ (sym c.sample_hit.ensures ∙ w.if-sample_hit.false) ])
 
 pub returns : goal.returns
 returns c = let s = c.args in

@@ -9,6 +9,7 @@ use Rattle.raster.specs.Contact.{hit_at}
 use Rattle.rims.proofs.HitLaws.{hits_few, no_blocks, counted, passed, all_blocks}
 use Rattle.rims.proofs.NearLaws.{block_on, block-bare}
 use Rattle.rims.proofs.contact.box_hits.Goals as goal
+use Rattle.rims.proofs.contact.box_hits.Goals.{else-not-is_bare, then-not-is_bare}
 
 pub loop-b-init : goal.loop-b-init
 loop-b-init c = (omega arith, no_blocks _ _ _ _ _)
@@ -34,7 +35,7 @@ pub loop-b-preserved : goal.loop-b-preserved
 loop-b-preserved c = let l = c.loop-b in
     let d = c.loop-b-test.true in (
       omega (arith, d),
-      ⊎_elim (λ w. w.2 ∙ counted c.args.g c.args.map.now c.args.c c.args.r c.args.n l.b l.h d l.invariant.1 _ w.1.ensures) (λ w. w.1 ∙ passed c.args.g c.args.map.now c.args.c c.args.r c.args.n l.b l.h d l.invariant.1 (block-bare c.args.g c.requires.over.sides _ _ _ _ _ _ _ c.requires.around _ _ _ c.requires.tiled (c.is_bare.ensures (not-false _ w.0.left)))) c.if-not-is_bare.branch,
+      elim c.if-not-is_bare.branch [ then-not-is_bare w ↦ w.h-is ∙ counted c.args.g c.args.map.now c.args.c c.args.r c.args.n l.b l.h d l.invariant.1 _ w.block_hits-h.ensures | else-not-is_bare w ↦ w.h-is ∙ passed c.args.g c.args.map.now c.args.c c.args.r c.args.n l.b l.h d l.invariant.1 (block-bare c.args.g c.requires.over.sides _ _ _ _ _ _ _ c.requires.around _ _ _ c.requires.tiled (c.is_bare.ensures w.if-not-is_bare.false)) ],
     )
 
 pub returns : goal.returns

@@ -8,6 +8,7 @@ use Rattle.raster.specs.Grid.{center_of}
 use Rattle.raster.specs.Contact.{hit_at, hits_of}
 use Rattle.raster.proofs.ContactLaws.{hit_yes, hit_no, hits-most}
 use Rattle.rims.proofs.hits.roomy_hits.Goals as goal
+use Rattle.rims.proofs.hits.roomy_hits.Goals.{else-sample_hit, then-sample_hit}
 
 pub loop-k-init : goal.loop-k-init
 loop-k-init c = going_none _ _ _ _
@@ -20,7 +21,7 @@ overflow_add-h c = omega (arith, c.loop-k.invariant.is, hits-most c.args.g c.arg
 
 pub loop-k-preserved : goal.loop-k-preserved
 loop-k-preserved c = going_more _ _ _ _ _ _ _ c.loop-k.invariant c.loop-k-test.true
-    (⊎_elim (λ w. w.1 ∙ hit_yes _ _ _ _ _ _ _ (sym c.sample_hit.ensures ∙ w.0.taken)) (λ w. w.1 ∙ hit_no _ _ _ _ _ _ _ (sym c.sample_hit.ensures ∙ w.0.left)) c.if-sample_hit.branch)
+    (elim c.if-sample_hit.branch [ then-sample_hit w ↦ w.h-is ∙ hit_yes _ _ _ _ _ _ _ (sym c.sample_hit.ensures ∙ w.if-sample_hit.true) | else-sample_hit w ↦ w.h-is ∙ hit_no _ _ _ _ _ _ _ (sym c.sample_hit.ensures ∙ w.if-sample_hit.false) ])
 
 pub returns : goal.returns
 unfolding hits_of

@@ -5,6 +5,7 @@ use native.Mathlib.Omega.{arith}
 use Rattle.rims.specs.Sums.{Added}
 use Rattle.rims.proofs.SumLaws.{added_none, added_more, added_end}
 use Rattle.rims.proofs.sums.add_cells.Goals as goal
+use Rattle.rims.proofs.sums.add_cells.Goals.{else-map-a-eq1, then-map-a-eq1}
 
 pub loop-c-init : goal.loop-c-init
 loop-c-init c = (added_none _ _ _, omega arith)
@@ -20,7 +21,7 @@ bounds-counts-c-in-loop-c c = omega (arith, c.loop-c.invariant.0.long, c.require
 
 pub loop-c-preserved : goal.loop-c-preserved
 loop-c-preserved c = let l = c.loop-c in
-    (added_more _ _ _ _ _ _ l.invariant.0 (omega (arith, c.loop-c-test.true, c.requires.countable.long)) (λ h. ⊎_elim (λ w. w.1) (λ w. absurd (w.0.left h)) c.if-map-a-eq1.branch) (λ h. ⊎_elim (λ w. absurd (h w.0.taken)) (λ w. w.1) c.if-map-a-eq1.branch), omega (arith, c.loop-c-test.true))
+    (added_more _ _ _ _ _ _ l.invariant.0 (omega (arith, c.loop-c-test.true, c.requires.countable.long)) (λ h. elim c.if-map-a-eq1.branch [ then-map-a-eq1 w ↦ w.counts-is | else-map-a-eq1 w ↦ absurd (w.if-map-a-eq1.false h) ]) (λ h. elim c.if-map-a-eq1.branch [ then-map-a-eq1 w ↦ absurd (h w.if-map-a-eq1.true) | else-map-a-eq1 w ↦ w.counts-is ]), omega (arith, c.loop-c-test.true))
 
 pub shape_of-counts : goal.shape_of-counts
 shape_of-counts c = c.loop-c.invariant.0.long

@@ -6,6 +6,7 @@ use native.Mathlib.Omega.{arith}
 use Rattle.rims.specs.Tiles.{Keeps, Gathered}
 use Rattle.rims.proofs.TileLaws.{gathered_none, gathered_more, gathered_end}
 use Rattle.rims.proofs.tiles.gather.Goals as goal
+use Rattle.rims.proofs.tiles.gather.Goals.{else-map-a-eq1, then-map-a-eq1}
 
 pub loop-i-init : goal.loop-i-init
 loop-i-init c = gathered_none _ _ _
@@ -18,7 +19,7 @@ bounds-cols-i-in-loop-i c = omega (arith, c.loop-i.invariant.0.long)
 
 pub loop-i-preserved : goal.loop-i-preserved
 loop-i-preserved c = let l = c.loop-i in
-    gathered_more _ _ _ _ _ _ (omega (arith, l.invariant.0.long, c.loop-i-test.true, c.requires.1)) (λ h. ⊎_elim (λ w. w.1) (λ w. absurd (w.0.left h)) c.if-map-a-eq1.branch) (λ h. ⊎_elim (λ w. w.1) (λ w. w.1 ∙ h) c.if-map-a-eq1.branch) l.invariant
+    gathered_more _ _ _ _ _ _ (omega (arith, l.invariant.0.long, c.loop-i-test.true, c.requires.1)) (λ h. elim c.if-map-a-eq1.branch [ then-map-a-eq1 w ↦ w.cols-is | else-map-a-eq1 w ↦ absurd (w.if-map-a-eq1.false h) ]) (λ h. elim c.if-map-a-eq1.branch [ then-map-a-eq1 w ↦ w.cols-is | else-map-a-eq1 w ↦ w.cols-is ∙ h ]) l.invariant
 
 pub shape_of-cols : goal.shape_of-cols
 shape_of-cols c = c.loop-i.invariant.0.long

@@ -11,9 +11,6 @@ use Rattle.rims.proofs.tiles.gather_rows.Goals.{In-loop-j}
 on : (c : In-loop-j) → c.loop-j.j < c.args.g.ny
 on c = omega (arith, c.loop-j-test.true, c.least-j-end.ensures)
 
-pub least-j-end-requires : goal.least-j-end-requires
-least-j-end-requires c = tt
-
 pub loop-j-init : goal.loop-j-init
 loop-j-init c = rows_none _ _ _ _
 

@@ -7,6 +7,7 @@ use native.Mathlib.Omega.{arith}
 use Rattle.rims.specs.Tiles.{Keeps, ColumnsMarked}
 use Rattle.rims.proofs.TileLaws.{columns-none, columns-yes, columns-no, columns-end}
 use Rattle.rims.proofs.tiles.mark_row.Goals as goal
+use Rattle.rims.proofs.tiles.mark_row.Goals.{else-has_stock, then-has_stock}
 
 pub loop-x-init : goal.loop-x-init
 loop-x-init c = columns-none _ _ _ _
@@ -18,7 +19,7 @@ pub loop-x-preserved : goal.loop-x-preserved
 loop-x-preserved c = let s = c.args in
     let l = c.loop-x in
     let Next : List ℕ → Type 0 = λ t. Keeps s.tiles.now t × ColumnsMarked s.n s.y s.cols.now (l.x + 1) t in
-    ⊎_elim (λ w. subst Next (sym w.5) (columns-yes _ _ _ _ _ _ _ w.2.ensures l.invariant)) (λ w. subst Next (sym w.1) (columns-no _ _ _ _ _ _ (sym c.has_stock.ensures ∙ w.0.left) l.invariant)) c.if-has_stock.branch
+    elim c.if-has_stock.branch [ then-has_stock w ↦ subst Next (sym w.tiles-is) (columns-yes _ _ _ _ _ _ _ w.mark.ensures l.invariant) | else-has_stock w ↦ subst Next (sym w.tiles-is) (columns-no _ _ _ _ _ _ (sym c.has_stock.ensures ∙ w.if-has_stock.false) l.invariant) ]
 
 pub shape_of-tiles : goal.shape_of-tiles
 shape_of-tiles c = c.loop-x.invariant.0.long

@@ -9,4 +9,4 @@ cut_piece-c-requires c =  let p = c.requires in
     record { fitted = r.0; lends = r.1.0; among = r.1.1.0; listed = r.1.1.1; }
 
 pub returns : goal.returns
-returns c = let p = c.requires in let e = c.cut_piece-c.ensures in (cut-next-is _ _ _ _ _ _ p.standing _ p.traced _ c.traced.ensures _ _ _ _ _ _ _ _ _ _ e.result_after c.after.ensures, e.1)
+returns c =  let p = c.requires in let e = c.cut_piece-c.ensures in record { result_after = cut-next-is _ _ _ _ _ _ p.standing _ p.traced _ c.traced.ensures _ _ _ _ _ _ _ _ _ _ e.result_after c.after.ensures; settled = e.settled; behind = e.behind; only = e.only; }

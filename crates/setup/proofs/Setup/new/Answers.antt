@@ -5,4 +5,4 @@ use Rattle.setup.proofs.Setup.new.Goals as goal
 
 pub returns : goal.returns
 unfolding setup_of
-returns c =    rw (← c.to_radians.ensures, ← c.guard_of-guard.ensures, ← c.target_of.ensures, ← c.samples_of.ensures, ← c.bound_of-bound.ensures.is)
+returns c = rw (← c.to_radians.ensures, ← c.guard_of-guard.ensures, ← c.target_of.ensures, ← c.samples_of.ensures, ← c.bound_of-bound.ensures.is)

@@ -13,7 +13,7 @@ pub bounds-w-k : goal.bounds-w-k
 bounds-w-k c = let i = c.loop-k.invariant in omega (arith, ap length i.0, filled-length c.args.v c.args.w.now c.loop-k.k i.1, c.loop-k-test.true)
 
 pub loop-k-preserved : goal.loop-k-preserved
-loop-k-preserved c =    let i = c.loop-k.invariant in
+loop-k-preserved c = let i = c.loop-k.invariant in
     (ap (λ l. set l c.loop-k.k c.args.v) i.0 ∙ filled_more c.args.v c.args.w.now c.loop-k.k c.loop-k-test.true, omega (arith, c.loop-k-test.true))
 
 pub shape_of-w : goal.shape_of-w
