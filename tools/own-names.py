@@ -124,11 +124,17 @@ def main():
     def word(m):
         return turned.get(m[0], m[0])
 
+    # A name that is in snake case already may be a function's of src/, which keeps it.
+    def source_word(m):
+        return turned.get(m[0], m[0]) if "-" in m[0] or is_camel(m[0]) else m[0]
+
     for p in antt + rest + pages:
         t = text[p]
         if p.endswith(".rt"):
             cut = re.split(r"(b?\"(?:[^\"\\]|\\.)*\")", t)
-            new = "".join(s if i % 2 else WORD.sub(word, s) for i, s in enumerate(cut))
+            new = "".join(s if i % 2 else WORD.sub(source_word, s) for i, s in enumerate(cut))
+        elif p.endswith(".edit"):
+            new = WORD.sub(source_word, t)
         elif p.endswith(".md"):
             new = re.sub(r"`[^`\n]*`", lambda m: WORD.sub(word, m[0]), t)
         else:

@@ -5,7 +5,7 @@ ghost use Rattle.entry.specs.Questions.{above_zero, one_or_more, fine_for, absen
 use super::params::{AdaptiveParams, Setting, cell_of};
 use numbers::order::is_finite;
 
-fn above_zero_lem(x: f64) -> bool
+fn above_zero(x: f64) -> bool
     ensures { result ≡ above_zero x }
 {
     is_finite(x) & (0.0 < x)
@@ -20,13 +20,13 @@ fn one_or_more(x: f64) -> bool
 fn fine_for(d: f64, x: f64) -> bool
     ensures { result ≡ fine_for d x }
 {
-    above_zero_lem(x) & (x <= d / 60.0 + 1e-12)
+    above_zero(x) & (x <= d / 60.0 + 1e-12)
 }
 
 fn diameter_fits(p: AdaptiveParams) -> bool
     ensures { result ≡ diameter_fit p }
 {
-    above_zero_lem(p.tool_diameter)
+    above_zero(p.tool_diameter)
 }
 
 fn engagement_fits(p: AdaptiveParams) -> bool
@@ -39,7 +39,7 @@ fn engagement_fits(p: AdaptiveParams) -> bool
 fn step_down_fits(p: AdaptiveParams) -> bool
     ensures { result ≡ step_down_fit p }
 {
-    above_zero_lem(p.step_down)
+    above_zero(p.step_down)
 }
 
 fn depth_fits(p: AdaptiveParams) -> bool
@@ -63,13 +63,13 @@ fn safe_fits(p: AdaptiveParams) -> bool
 fn feeds_fit(p: AdaptiveParams) -> bool
     ensures { result ≡ feeds_fit p }
 {
-    above_zero_lem(p.feed) & (above_zero_lem(p.plunge_feed) & above_zero_lem(p.link_feed))
+    above_zero(p.feed) & (above_zero(p.plunge_feed) & above_zero(p.link_feed))
 }
 
 fn ramp_fits(p: AdaptiveParams) -> bool
     ensures { result ≡ ramp_fit p }
 {
-    above_zero_lem(p.helix_ramp_deg) & (p.helix_ramp_deg <= 45.0)
+    above_zero(p.helix_ramp_deg) & (p.helix_ramp_deg <= 45.0)
 }
 
 fn helix_fits(p: AdaptiveParams) -> bool
@@ -77,7 +77,7 @@ fn helix_fits(p: AdaptiveParams) -> bool
 {
     let h = p.helix_radius;
     match h {
-        Setting::Given(x) => above_zero_lem(x),
+        Setting::Given(x) => above_zero(x),
         Setting::Absent => true,
     }
 }

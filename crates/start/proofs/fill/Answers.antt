@@ -8,8 +8,7 @@ use Rattle.entry.proofs.RegionsLaws.{held-is}
 use Rattle.start.proofs.fill.Goals as goal
 
 pub stock-requires : goal.stock-requires
-stock-requires c =     let p = c.requires in
-    let room = p.room in record { sides = p.sides; all_held = p.all_held; pocket_value = p.region_value; nx_in_bounds = room.bytes; nx_in_bounds_2 = room.doubles; }
+stock-requires c =     let room = c.requires.room in record { sides = c.requires.sides; all_held = c.requires.all_held; pocket_value = c.requires.region_value; nx_in_bounds = room.bytes; nx_in_bounds_2 = room.doubles; }
 
 pub reach-requires : goal.reach-requires
 reach-requires c =     let room = c.requires.room in

@@ -11,15 +11,13 @@ pub slice_bounds-fill-end : goal.slice_bounds-fill-end
 slice_bounds-fill-end c = sym tiles_long
 
 pub fill-requires : goal.fill-requires
-fill-requires c =     let p = c.requires in
-    let m = c.passing-s.ensures in record { over = (pass_usable _ _ _ _ _ _ _ _ _ m.0 m.1 _ _ _ p.usable).over; in_bounds = omega (arith, tiles_long); }
+fill-requires c =     let m = c.passing-s.ensures in record { over = (pass_usable _ _ _ _ _ _ _ _ _ m.0 m.1 _ _ _ c.requires.usable).over; in_bounds = omega (arith, tiles_long); }
 
 pub slice_bounds-simulate-end : goal.slice_bounds-simulate-end
 slice_bounds-simulate-end c = sym (c.fill.auto.tiles ∙ tiles_long)
 
 pub simulate-t-requires : goal.simulate-t-requires
-simulate-t-requires c =     let p = c.requires in
-    let m = c.passing-s.ensures in record { walls = pass-walls _ _ _ _ _ _ _ _ _ m.0 m.1 _ _ _ p.walls; tables = pass-tables _ _ _ _ _ _ _ _ _ m.0 m.1 _ p.tables; usable = pass_usable _ _ _ _ _ _ _ _ _ m.0 m.1 _ _ _ p.usable; tiled = c.fill.ensures; }
+simulate-t-requires c =     let m = c.passing-s.ensures in record { walls = pass-walls _ _ _ _ _ _ _ _ _ m.0 m.1 _ _ _ c.requires.walls; tables = pass-tables _ _ _ _ _ _ _ _ _ m.0 m.1 _ c.requires.tables; usable = pass_usable _ _ _ _ _ _ _ _ _ m.0 m.1 _ _ _ c.requires.usable; tiled = c.fill.ensures; }
 
 pub bounds-out-0 : goal.bounds-out-0
 bounds-out-0 c = omega (arith, c.requires.in_bounds)

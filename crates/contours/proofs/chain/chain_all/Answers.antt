@@ -15,15 +15,13 @@ use Rattle.contours.proofs.chain.chain_all.Goals.{In-loop-k}
 -- the segment at k joins edges of the grid
 joins : (c : In-loop-k) → let l = c.loop-k in Joins c.args.g (segment (edge (get_or l.words (2 * l.k) 0)) (edge (get_or l.words (2 * l.k + 1) 0)))
 joins c =
-    let p = c.requires in
-    segment-each (Joins c.args.g) _ _ _ _ _ p.each c.loop-k.invariant.0.segments_kept p.m_bound c.loop-k-test.true
+    segment-each (Joins c.args.g) _ _ _ _ _ c.requires.each c.loop-k.invariant.0.segments_kept c.requires.m_bound c.loop-k-test.true
 
 -- and its place is within the words
 placed : (c : In-loop-k) → let a = c.args in (2 * c.loop-k.k + 1 < next_at a.n) × (length c.loop-k.words ≡ words_end a.n) × (a.n ≤ 1048576)
 placed c =
-    let p = c.requires in
     let t = c.loop-k.invariant.0.tracing in
-    (omega (arith, p.m_bound, c.loop-k-test.true), t.words_long, omega (arith, t.cells, p.over.sides.cells))
+    (omega (arith, c.requires.m_bound, c.loop-k-test.true), t.words_long, omega (arith, t.cells, c.requires.over.sides.cells))
 
 pub loop-k-init : goal.loop-k-init
 loop-k-init c = (tour_none _ _ _ _ _ _ _ _ _ refl c.requires.tracing, omega arith)

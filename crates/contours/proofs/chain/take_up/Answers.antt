@@ -7,7 +7,7 @@ use Rattle.contours.proofs.chain.take_up.Goals as goal
 
 pub chain-k-requires : goal.chain-k-requires
 unfolding within
-chain-k-requires c =  let p = c.requires in record { over = p.over; chaining = rw (c.next_at-next.ensures, c.rows_at-rows.ensures) (chaining _ _ _ _ _ _ p.tracing _ p.startable); }
+chain-k-requires c = record { over = c.requires.over; chaining = rw (c.next_at-next.ensures, c.rows_at-rows.ensures) (chaining _ _ _ _ _ _ c.requires.tracing _ c.requires.startable); }
 
 pub returns-then-kept-lt2 : goal.returns-then-kept-lt2
 unfolding within
@@ -15,11 +15,11 @@ returns-then-kept-lt2 c = traced_none _ _ _ _ _ _ c.requires.tracing _ _ _ _ _ _
 
 pub overflow_cast-first : goal.overflow_cast-first
 unfolding within
-overflow_cast-first c = let p = c.requires in omega (arith, p.over.sides.cells, p.tracing.cells, p.tracing.pairs, points-few _ _ _ _ _ _ p.tracing _ _ _ _ _ _ (followed_there _ _ _ _ _ _ _ _ _ _ _ _ _ c.next_at-next.ensures c.rows_at-rows.ensures c.chain-k.ensures))
+overflow_cast-first c = omega (arith, c.requires.over.sides.cells, c.requires.tracing.cells, c.requires.tracing.pairs, points-few _ _ _ _ _ _ c.requires.tracing _ _ _ _ _ _ (followed_there _ _ _ _ _ _ _ _ _ _ _ _ _ c.next_at-next.ensures c.rows_at-rows.ensures c.chain-k.ensures))
 
 pub overflow_cast-kept : goal.overflow_cast-kept
 unfolding within
-overflow_cast-kept c = let p = c.requires in omega (arith, p.over.sides.cells, p.tracing.cells, p.tracing.pairs, points-few _ _ _ _ _ _ p.tracing _ _ _ _ _ _ (followed_there _ _ _ _ _ _ _ _ _ _ _ _ _ c.next_at-next.ensures c.rows_at-rows.ensures c.chain-k.ensures))
+overflow_cast-kept c = omega (arith, c.requires.over.sides.cells, c.requires.tracing.cells, c.requires.tracing.pairs, points-few _ _ _ _ _ _ c.requires.tracing _ _ _ _ _ _ (followed_there _ _ _ _ _ _ _ _ _ _ _ _ _ c.next_at-next.ensures c.rows_at-rows.ensures c.chain-k.ensures))
 
 pub put_row-requires : goal.put_row-requires
 unfolding within
@@ -27,11 +27,11 @@ put_row-requires c = rw (c.rows_at-rows.ensures, c.words_end-end.ensures) (row_r
 
 pub overflow_add-result : goal.overflow_add-result
 unfolding within
-overflow_add-result c = let p = c.requires in omega (arith, p.over.sides.cells, p.tracing.cells, p.tracing.pairs, points-few _ _ _ _ _ _ p.tracing _ _ _ _ _ _ (followed_there _ _ _ _ _ _ _ _ _ _ _ _ _ c.next_at-next.ensures c.rows_at-rows.ensures c.chain-k.ensures))
+overflow_add-result c = omega (arith, c.requires.over.sides.cells, c.requires.tracing.cells, c.requires.tracing.pairs, points-few _ _ _ _ _ _ c.requires.tracing _ _ _ _ _ _ (followed_there _ _ _ _ _ _ _ _ _ _ _ _ _ c.next_at-next.ensures c.rows_at-rows.ensures c.chain-k.ensures))
 
 pub overflow_add-result-2 : goal.overflow_add-result-2
 unfolding within
-overflow_add-result-2 c = let p = c.requires in omega (arith, p.over.sides.cells, p.tracing.cells, p.tracing.pairs, points-few _ _ _ _ _ _ p.tracing _ _ _ _ _ _ (followed_there _ _ _ _ _ _ _ _ _ _ _ _ _ c.next_at-next.ensures c.rows_at-rows.ensures c.chain-k.ensures))
+overflow_add-result-2 c = omega (arith, c.requires.over.sides.cells, c.requires.tracing.cells, c.requires.tracing.pairs, points-few _ _ _ _ _ _ c.requires.tracing _ _ _ _ _ _ (followed_there _ _ _ _ _ _ _ _ _ _ _ _ _ c.next_at-next.ensures c.rows_at-rows.ensures c.chain-k.ensures))
 
 pub returns : goal.returns
 unfolding within

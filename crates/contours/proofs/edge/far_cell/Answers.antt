@@ -14,10 +14,10 @@ unfolding far_of
 across c = rw (← c.is_upward.ensures, c.if-is_upward.false, ← c.lower_cell.ensures, ← c.index_of-k.ensures)
 
 pub cell_at-requires : goal.cell_at-requires
-cell_at-requires c = let p = c.requires in omega (arith, up (goal.at.cell_at-requires c).After-struct_known-1, p.sides.cells, p.between.far)
+cell_at-requires c = omega (arith, up (goal.at.cell_at-requires c).After-struct_known-1, c.requires.sides.cells, c.requires.between.far)
 
 pub cell_at-requires-else-is_upward : goal.cell_at-requires-else-is_upward
-cell_at-requires-else-is_upward c = let p = c.requires in omega (arith, across (goal.at.cell_at-requires-else-is_upward c).Else-is_upward, p.sides.cells, p.between.far)
+cell_at-requires-else-is_upward c = omega (arith, across (goal.at.cell_at-requires-else-is_upward c).Else-is_upward, c.requires.sides.cells, c.requires.between.far)
 
 pub returns-then-is_upward : goal.returns-then-is_upward
 returns-then-is_upward c = c.cell_at.ensures ∙ up (goal.at.returns-then-is_upward c).After-struct_known-1

@@ -15,9 +15,8 @@ pub run_end-e-requires : goal.run_end-e-requires
 run_end-e-requires c = c.loop-a-test.true
 
 pub march_run-m-requires : goal.march_run-m-requires
-march_run-m-requires c =     let s = c.requires in
-    let e = c.run_end-e.ensures in
-    let v = c.loop-a.invariant in record { over = s.over; in_row = record { order = omega (arith, e.0); column = omega (arith, e.1, s.over.sides.wide); row = s.j_bound }; a_in_bounds = omega (arith, e.0, e.1, v.2, v.3, s.nx_in_bounds); }
+march_run-m-requires c =     let e = c.run_end-e.ensures in
+    let v = c.loop-a.invariant in record { over = c.requires.over; in_row = record { order = omega (arith, e.0); column = omega (arith, e.1, c.requires.over.sides.wide); row = c.requires.j_bound }; a_in_bounds = omega (arith, e.0, e.1, v.2, v.3, c.requires.nx_in_bounds); }
 
 pub loop-a-smaller : goal.loop-a-smaller
 loop-a-smaller c = let e = c.run_end-e.ensures in omega (arith, e.0, e.1)

@@ -39,6 +39,6 @@ pub overflow_add-result-4 : goal.overflow_add-result-4
 overflow_add-result-4 c = omega (arith, (fits (goal.at.overflow_add-result-4 c).Else-no-ne0).0, c.well_formed)
 
 pub returns : goal.returns
-returns c =  let l = c.list_pass.ensures in
-    let r = keep-listed c.args.s c.args.t c.args.b.now c.args.log.now c.args.path.now c.args.triples.now c.args.rows.now c.args.route c.args.removed c.args.n (c.args.s.grid.ny * c.args.s.grid.nx) _ c.moves_of-moves.ensures _ c.refusal-no.ensures c.if-no-ne0.false c.requires.s_in_bounds _ c.greatest-planned_max.ensures _ c.spot-lead.ensures _ c.spot-last.ensures _ l.triples_after _ l.rows_after _ c.settle.ensures in
+returns c = 
+    let r = keep-listed c.args.s c.args.t c.args.b.now c.args.log.now c.args.path.now c.args.triples.now c.args.rows.now c.args.route c.args.removed c.args.n (c.args.s.grid.ny * c.args.s.grid.nx) _ c.moves_of-moves.ensures _ c.refusal-no.ensures c.if-no-ne0.false c.requires.s_in_bounds _ c.greatest-planned_max.ensures _ c.spot-lead.ensures _ c.spot-last.ensures _ c.list_pass.ensures.triples_after _ c.list_pass.ensures.rows_after _ c.settle.ensures in
     record { result_after = r.0; settled = r.1; }

@@ -6,7 +6,7 @@ use borrow.Author.Rules.{rules}
 use Rattle.entry.proofs.judge.raster_of.Goals as goal
 
 pub bounds-c-requires : goal.bounds-c-requires
-bounds-c-requires c =    subst (Held c.args.vs.now c.args.lens.now) (sym c.pocket_of-region.ensures) c.requires.held
+bounds-c-requires c = subst (Held c.args.vs.now c.args.lens.now) (sym c.pocket_of-region.ensures) c.requires.held
 
 pub returns : goal.returns
-returns c =    raster_is _ _ _ _ _ _ _ _ c.pocket_of-region.ensures c.bounds-c.ensures c.cell_of-cell.ensures c.new.ensures
+returns c = raster_is _ _ _ _ _ _ _ _ c.pocket_of-region.ensures c.bounds-c.ensures c.cell_of-cell.ensures c.new.ensures

@@ -6,4 +6,4 @@ use Rattle.entry.proofs.questions.feeds_fit.Goals as goal
 
 pub returns : goal.returns
 unfolding feeds_fit
-returns c = rw (c.above_zero_lem.ensures, c.above_zero_lem-2.ensures, c.above_zero_lem-3.ensures) refl
+returns c = rw (c.above_zero.ensures, c.above_zero-2.ensures, c.above_zero-3.ensures) refl

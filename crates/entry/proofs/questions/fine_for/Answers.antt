@@ -6,4 +6,4 @@ use Rattle.entry.proofs.questions.fine_for.Goals as goal
 
 pub returns : goal.returns
 unfolding fine_for
-returns c = rw c.above_zero_lem.ensures refl
+returns c = rw c.above_zero.ensures refl

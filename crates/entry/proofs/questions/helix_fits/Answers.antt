@@ -5,7 +5,7 @@ use Rattle.entry.proofs.questions.helix_fits.Goals as goal
 
 pub returns-in-Given : goal.returns-in-Given
 unfolding helix_fit absent_or
-returns-in-Given c = rw c.in-Given.is c.above_zero_lem.ensures
+returns-in-Given c = rw c.in-Given.is c.above_zero.ensures
 
 pub returns-in-Absent : goal.returns-in-Absent
 unfolding helix_fit absent_or

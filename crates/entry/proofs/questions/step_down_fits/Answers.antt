@@ -6,4 +6,4 @@ use Rattle.entry.proofs.questions.step_down_fits.Goals as goal
 
 pub returns : goal.returns
 unfolding step_down_fit
-returns c = rw c.above_zero_lem.ensures refl
+returns c = rw c.above_zero.ensures refl

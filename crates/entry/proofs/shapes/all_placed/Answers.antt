@@ -1,6 +1,6 @@
 -- `entry::shapes::all_placed` meets its contract. Assumes nothing.
 use mathlib.Core.Path.{sym, ap, ◌∙◌}
-use mathlib.Core.Bool.{false, not}
+use mathlib.Core.Bool.{not, false, not}
 use Prim.Native.Nat.{◌-◌}
 use Rattle.loops.specs.Loop.{or_at}
 use Rattle.loops.proofs.LoopLaws.{Going, going_none, any-on, any_out, any_none}
@@ -13,10 +13,10 @@ loop-k-init c = going_none _ _ _ _
 
 pub returns-then-not-is_placed : goal.returns-then-not-is_placed
 unfolding all_placed
-returns-then-not-is_placed c = ap not (any_out _ _ _ c.loop-k.k c.loop-k.invariant c.loop-k-test.true (ap not (sym c.is_placed.ensures) ∙ c.if-not-is_placed.true))
+returns-then-not-is_placed c = ap not (any_out _ _ _ c.loop-k.k c.loop-k.invariant c.loop-k-test.true (ap not (sym c.is_placed.ensures) ∙ (ap not c.if-not-is_placed.true)))
 
 pub loop-k-preserved : goal.loop-k-preserved
-loop-k-preserved c = any-on _ _ _ c.loop-k.k c.loop-k.invariant c.loop-k-test.true (ap not (sym c.is_placed.ensures) ∙ c.if-not-is_placed.false)
+loop-k-preserved c = any-on _ _ _ c.loop-k.k c.loop-k.invariant c.loop-k-test.true (ap not (sym c.is_placed.ensures) ∙ (ap not c.if-not-is_placed.false))
 
 pub returns : goal.returns
 unfolding all_placed

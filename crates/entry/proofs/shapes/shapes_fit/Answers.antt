@@ -8,11 +8,11 @@ pub vertices_fit-requires : goal.vertices_fit-requires
 vertices_fit-requires c = let s = c.args in few_loops s.whole s.lens.now s.regions.now (sym c.counts_fit.ensures ∙ c.if-counts_fit.true)
 
 pub returns-then-vertices_fit : goal.returns-then-vertices_fit
-returns-then-vertices_fit c =    let s = c.args in
+returns-then-vertices_fit c = let s = c.args in
     shapes_placed s.whole s.vs.now s.lens.now s.regions.now (sym c.counts_fit.ensures ∙ c.if-counts_fit.true) (sym c.vertices_fit.ensures ∙ c.if-vertices_fit.true) _ c.all_placed.ensures
 
 pub returns-else-vertices_fit : goal.returns-else-vertices_fit
-returns-else-vertices_fit c =    let s = c.args in
+returns-else-vertices_fit c = let s = c.args in
     shapes_not s.whole s.vs.now s.lens.now s.regions.now (sym c.counts_fit.ensures ∙ c.if-counts_fit.true) (sym c.vertices_fit.ensures ∙ c.if-vertices_fit.false)
 
 pub returns-else-counts_fit : goal.returns-else-counts_fit

@@ -24,7 +24,7 @@ pub loop-k-smaller : goal.loop-k-smaller
 loop-k-smaller c = omega (arith, c.loop-k-test.true)
 
 pub loop-k-preserved : goal.loop-k-preserved
-loop-k-preserved c =    let l = c.loop-k in
+loop-k-preserved c = let l = c.loop-k in
     (going_more _ _ _ _ _ _ _ l.invariant.0 c.loop-k-test.true refl, omega (arith, c.shared_slice_known-1.given l.k, l.invariant.1))
 
 pub returns : goal.returns

@@ -10,6 +10,7 @@ use Rattle.loops.proofs.LoopLaws.{Going, going_none, going_more, going_end}
 use Rattle.field.specs.Field.{ring_at}
 use Rattle.field.proofs.RoundLaws.{write_at, written_long, written_all}
 use Rattle.field.proofs.round.ring.Goals as goal
+use Rattle.field.proofs.round.ring.Goals.{else-allowed-k-eq1, then-allowed-k-eq1}
 use Rattle.field.proofs.round.ring.Goals.{At-loop-k}
 
 long : (c : At-loop-k) → length c.loop-k.f ≡ length c.args.f.now
@@ -30,7 +31,7 @@ bounds-f-k c = omega (arith, long (goal.at.bounds-f-k c).At-loop-k, c.loop-k-tes
 pub loop-k-preserved : goal.loop-k-preserved
 loop-k-preserved c =    let l = c.loop-k in
     going_more _ _ _ _ _ _ _ l.invariant c.loop-k-test.true
-    (⊎_elim (λ w. rw (w.1, eq-eqb _ _ w.0.taken) refl) (λ w. rw (w.1, ne_eqb _ _ w.0.left) refl) c.if-allowed-k-eq1.branch)
+    (elim c.if-allowed-k-eq1.branch [ then-allowed-k-eq1 w ↦ rw (w.f-is, eq-eqb _ _ w.if-allowed-k-eq1.true) refl | else-allowed-k-eq1 w ↦ rw (w.f-is, ne_eqb _ _ w.if-allowed-k-eq1.false) refl ])
 
 pub shape_of-f : goal.shape_of-f
 shape_of-f c = long (goal.at.shape_of-f c).At-loop-k

@@ -4,4 +4,4 @@ use borrow.Author.Rules.{rules}
 use Rattle.links.proofs.heap.push.Goals as goal
 
 pub returns : goal.returns
-returns c = pushed _ _ _ _ _ _ _ c.requires.lent c.rise-k.ensures _ _ c.write.ensures
+returns c = pushed _ _ _ _ _ _ _ c.requires.lent c.rise-k.ensures _ _ (c.write.ensures.ests_after, c.write.ensures.nodes_after)

@@ -29,7 +29,7 @@ pub loop-k-smaller : goal.loop-k-smaller
 loop-k-smaller c = omega (arith, c.loop-k-test.true)
 
 pub loop-k-preserved : goal.loop-k-preserved
-loop-k-preserved c = let l = c.loop-k in let p = c.requires.lent in rise-on _ _ _ _ _ _ _ l.invariant.0 l.invariant.1 _ c.read-f.ensures _ c.before-in-loop-k.ensures c.if-not-before.false c.loop-k-test.true (omega (arith, l.invariant.0.ests_long, l.invariant.1.high, p.in_ests)) (omega (arith, l.invariant.0.nodes-long, l.invariant.1.high, p.in_nodes)) _ _ c.write.ensures
+loop-k-preserved c = let l = c.loop-k in let p = c.requires.lent in rise-on _ _ _ _ _ _ _ l.invariant.0 l.invariant.1 _ c.read-f.ensures _ c.before-in-loop-k.ensures c.if-not-before.false c.loop-k-test.true (omega (arith, l.invariant.0.ests_long, l.invariant.1.high, p.in_ests)) (omega (arith, l.invariant.0.nodes-long, l.invariant.1.high, p.in_nodes)) _ _ (c.write.ensures.ests_after, c.write.ensures.nodes_after)
 
 pub shape_of-ests : goal.shape_of-ests
 shape_of-ests c = c.loop-k.invariant.0.ests_long

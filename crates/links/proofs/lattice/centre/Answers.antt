@@ -13,7 +13,7 @@ pub nonzero_div-a : goal.nonzero_div-a
 nonzero_div-a c = gx_pos _ c.requires.laid
 
 pub centre_at-requires : goal.centre_at-requires
-centre_at-requires c =  let l = c.args.l in record { sides = c.requires.laid.sides; k_bound = subst (λ (a : ℕ). a % l.gx * l.k < l.grid.nx) (sym c.index_of_node-a.ensures) (column_in _ c.requires.laid _ c.requires.node); k_bound_2 = subst (λ (a : ℕ). a / l.gx * l.k < l.grid.ny) (sym c.index_of_node-a.ensures) (row_in _ c.requires.laid _ c.requires.node); }
+centre_at-requires c = let l = c.args.l in record { sides = c.requires.laid.sides; k_bound = subst (λ (a : ℕ). a % l.gx * l.k < l.grid.nx) (sym c.index_of_node-a.ensures) (column_in _ c.requires.laid _ c.requires.node); k_bound_2 = subst (λ (a : ℕ). a / l.gx * l.k < l.grid.ny) (sym c.index_of_node-a.ensures) (row_in _ c.requires.laid _ c.requires.node) }
 
 pub returns : goal.returns
 unfolding centre_of

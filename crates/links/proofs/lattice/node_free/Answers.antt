@@ -13,9 +13,9 @@ pub bounds-squares-k : goal.bounds-squares-k
 bounds-squares-k c = omega (arith, (c.index_of-k.ensures ∙ ap (λ (n : CellNo). n.0) c.cell_of_node.ensures), cell_below _ c.requires.laid c.args.v c.requires.node, c.requires.over_2.long)
 
 pub beyond-requires : goal.beyond-requires
-beyond-requires c = 
+beyond-requires c =
     let r = limited-bound c.args.l _ _ c.bound_of.ensures c.requires.limited in
-    record { limit_of = r.0; strict_value = r.1; }
+    record { limit_of = r.0; strict_value = r.1 }
 
 pub returns-then-allowed-k-eq1 : goal.returns-then-allowed-k-eq1
 returns-then-allowed-k-eq1 c = free-judged _ _ _ _ _ (c.index_of-k.ensures ∙ ap (λ (n : CellNo). n.0) c.cell_of_node.ensures) c.if-allowed-k-eq1.true _ c.bound_of.ensures _ c.beyond.ensures

@@ -15,9 +15,9 @@ pub returns-then-l-b : goal.returns-then-l-b
 returns-then-l-b c = off-above _ _ _ c.if-a-lt1.false c.if-b-lt1.false c.if-l-a.false c.if-l-b.true
 
 pub node_at-requires : goal.node_at-requires
-node_at-requires c = 
+node_at-requires c =
     let r = on_fits _ _ _ c.requires c.if-l-a.false c.if-l-b.false in
-    record { gi_bound = r.0; gx_bound = r.1; }
+    record { gi_bound = r.0; gx_bound = r.1 }
 
 pub returns : goal.returns
 returns c = on_there _ _ _ c.if-a-lt1.false c.if-b-lt1.false c.if-l-a.false c.if-l-b.false _ c.node_at.ensures

@@ -4,6 +4,6 @@ use borrow.Author.Rules.{rules}
 use Rattle.links.proofs.link.shade_nodes.Goals as goal
 
 pub returns : goal.returns
-returns c =  let p = c.requires in
-    let r = shaded_tell _ p.laid c.args.map.now _ p.limited p.takes _ _ c.shade.ensures in
-    record { telling = r.0; work_len_unchanged = r.1; }
+returns c =
+    let r = shaded_tell _ c.requires.laid c.args.map.now _ c.requires.limited c.requires.takes _ _ c.shade.ensures in
+    record { telling = r.0; work_len_unchanged = r.1 }

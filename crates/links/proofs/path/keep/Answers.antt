@@ -4,6 +4,6 @@ use borrow.Author.Rules.{rules}
 use Rattle.links.proofs.path.keep.Goals as goal
 
 pub returns : goal.returns
-returns c = 
+returns c =
     let r = keep-is c.args.s _ _ c.cells-n.ensures _ c.path-from.ensures _ _ c.requires.s_in_bounds _ c.put.ensures in
-    record { w_after = r.0; only = r.1; }
+    record { w_after = r.0; only = r.1 }

@@ -28,19 +28,19 @@ pub shape_of-ps-then-is_none : goal.shape_of-ps-then-is_none
 shape_of-ps-then-is_none c = c.loop-k.invariant.1 ∙ ap length c.put.ensures ∙ put-length _ _ c.args.ps.now
 
 pub returns-then-is_none : goal.returns-then-is_none
-returns-then-is_none c =  let i = c.loop-k.invariant in record { ps_after = laying_stop _ c.requires.laid _ c.requires.befores _ _ _ _ i.0 (eqb-true _ _ (sym c.is_none.ensures ∙ c.if-is_none.true)) ∙ laying_all _ c.requires.laid _ c.requires.befores _ c.args.ps.now _ c.requires.l_in_bounds _ c.nodes_of-last.ensures c.put.ensures _ c.index_of_node.ensures _ c.node_in-v.ensures; upper_bound = i.0.low; ps_len_unchanged = i.1 ∙ ap length c.put.ensures ∙ put-length _ _ _; }
+returns-then-is_none c = let i = c.loop-k.invariant in record { ps_after = laying_stop _ c.requires.laid _ c.requires.befores _ _ _ _ i.0 (eqb-true _ _ (sym c.is_none.ensures ∙ c.if-is_none.true)) ∙ laying_all _ c.requires.laid _ c.requires.befores _ c.args.ps.now _ c.requires.l_in_bounds _ c.nodes_of-last.ensures c.put.ensures _ c.index_of_node.ensures _ c.node_in-v.ensures; upper_bound = i.0.low; ps_len_unchanged = i.1 ∙ ap length c.put.ensures ∙ put-length _ _ _ }
 
 pub shape_of-ps-then-same_node : goal.shape_of-ps-then-same_node
 shape_of-ps-then-same_node c = c.loop-k.invariant.1 ∙ ap length c.put.ensures ∙ put-length _ _ c.args.ps.now
 
 pub returns-then-same_node : goal.returns-then-same_node
-returns-then-same_node c =  let i = c.loop-k.invariant in record { ps_after = laying_start _ c.requires.laid _ c.requires.befores _ _ _ _ i.0 (eqb-false _ _ (sym c.is_none.ensures ∙ c.if-is_none.false)) (eqb-true _ _ (sym c.same_node.ensures ∙ c.if-same_node.true)) ∙ laying_all _ c.requires.laid _ c.requires.befores _ c.args.ps.now _ c.requires.l_in_bounds _ c.nodes_of-last.ensures c.put.ensures _ c.index_of_node.ensures _ c.node_in-v.ensures; upper_bound = i.0.low; ps_len_unchanged = i.1 ∙ ap length c.put.ensures ∙ put-length _ _ _; }
+returns-then-same_node c = let i = c.loop-k.invariant in record { ps_after = laying_start _ c.requires.laid _ c.requires.befores _ _ _ _ i.0 (eqb-false _ _ (sym c.is_none.ensures ∙ c.if-is_none.false)) (eqb-true _ _ (sym c.same_node.ensures ∙ c.if-same_node.true)) ∙ laying_all _ c.requires.laid _ c.requires.befores _ c.args.ps.now _ c.requires.l_in_bounds _ c.nodes_of-last.ensures c.put.ensures _ c.index_of_node.ensures _ c.node_in-v.ensures; upper_bound = i.0.low; ps_len_unchanged = i.1 ∙ ap length c.put.ensures ∙ put-length _ _ _ }
 
 pub overflow_sub-k : goal.overflow_sub-k
 overflow_sub-k c = omega (arith, c.loop-k-test.true)
 
 pub centre-requires : goal.centre-requires
-centre-requires c = record { laid = c.requires.laid; node = c.loop-k.invariant.0.node (eqb-false _ _ (sym c.is_none.ensures ∙ c.if-is_none.false)); }
+centre-requires c = record { laid = c.requires.laid; node = c.loop-k.invariant.0.node (eqb-false _ _ (sym c.is_none.ensures ∙ c.if-is_none.false)) }
 
 pub put-requires-in-loop-k : goal.put-requires-in-loop-k
 put-requires-in-loop-k c = let i = c.loop-k.invariant.0 in omega (arith, i.low, i.room, c.loop-k-test.true)
@@ -58,4 +58,4 @@ pub shape_of-ps : goal.shape_of-ps
 shape_of-ps c = c.loop-k.invariant.1 ∙ ap length c.put.ensures ∙ put-length _ _ c.args.ps.now
 
 pub returns : goal.returns
-returns c =  let i = c.loop-k.invariant in record { ps_after = laying_end _ c.requires.laid _ c.requires.befores _ _ _ _ i.0 c.loop-k-test.false ∙ laying_all _ c.requires.laid _ c.requires.befores _ c.args.ps.now _ c.requires.l_in_bounds _ c.nodes_of-last.ensures c.put.ensures _ c.index_of_node.ensures _ c.node_in-v.ensures; upper_bound = i.0.low; ps_len_unchanged = i.1 ∙ ap length c.put.ensures ∙ put-length _ _ _; }
+returns c = let i = c.loop-k.invariant in record { ps_after = laying_end _ c.requires.laid _ c.requires.befores _ _ _ _ i.0 c.loop-k-test.false ∙ laying_all _ c.requires.laid _ c.requires.befores _ c.args.ps.now _ c.requires.l_in_bounds _ c.nodes_of-last.ensures c.put.ensures _ c.index_of_node.ensures _ c.node_in-v.ensures; upper_bound = i.0.low; ps_len_unchanged = i.1 ∙ ap length c.put.ensures ∙ put-length _ _ _ }

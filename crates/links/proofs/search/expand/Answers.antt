@@ -12,7 +12,7 @@ pub loop-d-init : goal.loop-d-init
 loop-d-init c = (going_none _ _ _ _, (visited_none _ _ _ _ c.requires.searching, omega arith))
 
 pub visit-m-requires : goal.visit-m-requires
-visit-m-requires c =  let l = c.loop-d in record { laid = c.requires.laid; node = c.requires.node; limited = c.requires.limited; over = c.requires.over; searching = l.invariant.1.0.searching; m_bound = omega (arith, l.invariant.1.1, c.requires.len_bound, c.loop-d-test.true); d_bound = c.loop-d-test.true; }
+visit-m-requires c = let l = c.loop-d in record { laid = c.requires.laid; node = c.requires.node; limited = c.requires.limited; over = c.requires.over; searching = l.invariant.1.0.searching; m_bound = omega (arith, l.invariant.1.1, c.requires.len_bound, c.loop-d-test.true); d_bound = c.loop-d-test.true }
 
 pub overflow_step-d : goal.overflow_step-d
 overflow_step-d c = omega (arith, c.loop-d-test.true)
@@ -21,11 +21,10 @@ pub loop-d-smaller : goal.loop-d-smaller
 loop-d-smaller c = omega (arith, c.loop-d-test.true)
 
 pub loop-d-preserved : goal.loop-d-preserved
-loop-d-preserved c =    let l = c.loop-d in
-    let S = c.requires.searching in
-    let e = c.visit-m.ensures in (
-      expand_more _ _ _ c.args.u.now _ _ _ l.d _ S.long l.invariant.1.0.only l.invariant.0 c.loop-d-test.true e.costs_after,
-      (visited_more _ _ _ _ S _ _ _ _ _ _ l.invariant.1.0 e.visited, omega (arith, e.upper_bound, l.invariant.1.1)),
+loop-d-preserved c = let l = c.loop-d in
+    let S = c.requires.searching in (
+      expand_more _ _ _ c.args.u.now _ _ _ l.d _ S.long l.invariant.1.0.only l.invariant.0 c.loop-d-test.true c.visit-m.ensures.costs_after,
+      (visited_more _ _ _ _ S _ _ _ _ _ _ l.invariant.1.0 c.visit-m.ensures.visited, omega (arith, c.visit-m.ensures.upper_bound, l.invariant.1.1)),
     )
 
 pub shape_of-u : goal.shape_of-u
@@ -36,5 +35,5 @@ shape_of-costs c = c.loop-d.invariant.1.0.costs_long
 
 pub returns : goal.returns
 unfolding expand_of
-returns c =     let l = c.loop-d in
-    let d : l.d ≡ 8 = omega (arith, l.invariant.0.high, c.loop-d-test.false) in record { costs_after = going_end _ _ _ _ _ _ l.invariant.0 c.loop-d-test.false; visited = l.invariant.1.0; upper_bound = omega (arith, l.invariant.1.1); }
+returns c = let l = c.loop-d in
+    let d : l.d ≡ 8 = omega (arith, l.invariant.0.high, c.loop-d-test.false) in record { costs_after = going_end _ _ _ _ _ _ l.invariant.0 c.loop-d-test.false; visited = l.invariant.1.0; upper_bound = omega (arith, l.invariant.1.1) }

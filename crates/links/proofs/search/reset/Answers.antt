@@ -9,4 +9,4 @@ unfolding nan_bits
 float_from_bits-fill_doubles c = tt
 
 pub returns : goal.returns
-returns c = record { words_after = front-filled _ c.args.words.now _ c.requires.n_in_bounds _ c.fill_words.ensures; costs_after = front-filled _ c.args.costs.now _ c.requires.n_in_bounds_2 _ c.fill_doubles.ensures; }
+returns c = record { words_after = front-filled _ c.args.words.now _ c.requires.n_in_bounds _ c.fill_words.ensures; costs_after = front-filled _ c.args.costs.now _ c.requires.n_in_bounds_2 _ c.fill_doubles.ensures }

@@ -17,7 +17,7 @@ pub loop-i-init : goal.loop-i-init
 loop-i-init c = seeking_none _ c.args.allowed.now _ _ c.requires.searching
 
 pub step-t-requires : goal.step-t-requires
-step-t-requires c =  let l = c.loop-i in record { laid = c.requires.laid; limited = c.requires.limited; over = c.requires.over; searching = l.invariant.searching; sound = seeking_sound _ c.args.allowed.now _ _ c.requires.searching c.requires.laid c.requires.costs_value _ _ _ _ l.invariant; m_bound = l.invariant.few; i_bound = omega (arith, c.loop-i-test.true, c.nodes_of-i-end.ensures); }
+step-t-requires c = let l = c.loop-i in record { laid = c.requires.laid; limited = c.requires.limited; over = c.requires.over; searching = l.invariant.searching; sound = seeking_sound _ c.args.allowed.now _ _ c.requires.searching c.requires.laid c.requires.costs_value _ _ _ _ l.invariant; m_bound = l.invariant.few; i_bound = omega (arith, c.loop-i-test.true, c.nodes_of-i-end.ensures) }
 
 pub shape_of-u-in-Out : goal.shape_of-u-in-Out
 shape_of-u-in-Out c = c.step-t.ensures.turned.only.long ∙ c.loop-i.invariant.only.long
@@ -26,9 +26,9 @@ pub shape_of-costs-in-Out : goal.shape_of-costs-in-Out
 shape_of-costs-in-Out c = c.step-t.ensures.turned.costs_long ∙ c.loop-i.invariant.costs_long
 
 pub returns-in-Out : goal.returns-in-Out
-returns-in-Out c =  let l = c.loop-i in
+returns-in-Out c = let l = c.loop-i in
     let r = seeking_out _ c.args.allowed.now _ _ c.requires.searching c.requires.laid c.requires.costs_value _ _ _ _ l.invariant _ c.nodes_of-i-end.ensures c.loop-i-test.true _ _ _ c.step-t.ensures.costs_after c.step-t.ensures.turned _ c.in-Out.is in
-    record { u_after = r.0; only = r.1.0; costs_len_unchanged = r.1.1; }
+    record { u_after = r.0; only = r.1.0; costs_len_unchanged = r.1.1 }
 
 pub overflow_step-i : goal.overflow_step-i
 overflow_step-i c = omega (arith, c.loop-i-test.true, nodes-most _ c.requires.laid, c.nodes_of-i-end.ensures)
@@ -46,6 +46,6 @@ pub shape_of-costs : goal.shape_of-costs
 shape_of-costs c = c.loop-i.invariant.costs_long
 
 pub returns : goal.returns
-returns c =  let l = c.loop-i in
+returns c = let l = c.loop-i in
     let r = seeking_end _ c.args.allowed.now _ _ c.requires.searching c.requires.laid c.requires.costs_value _ _ _ _ l.invariant _ c.nodes_of-i-end.ensures c.loop-i-test.false in
-    record { u_after = r.0; only = r.1.0; costs_len_unchanged = r.1.1; }
+    record { u_after = r.0; only = r.1.0; costs_len_unchanged = r.1.1 }

@@ -8,14 +8,14 @@ pub slice_bounds-begin-end : goal.slice_bounds-begin-end
 slice_bounds-begin-end c = omega (arith, c.segments-to.ensures, c.cells-n.ensures, c.requires.l_in_bounds)
 
 pub begin-requires : goal.begin-requires
-begin-requires c = 
+begin-requires c =
     let r = seek_asks _ c.requires.laid _ c.args.costs.now c.requires.l_in_bounds c.requires.l_in_bounds_2 _ c.cells-n.ensures _ c.before-from.ensures _ c.segments-to.ensures in
-    record { laid = r.0; l_in_bounds = r.1.0; l_in_bounds_2 = r.1.1; }
+    record { laid = r.0; l_in_bounds = r.1.0; l_in_bounds_2 = r.1.1 }
 
 pub run-requires : goal.run-requires
-run-requires c =  let b = c.begin.ensures in let r = run_asks _ c.requires.laid _ c.args.costs.now c.requires.l_in_bounds c.requires.l_in_bounds_2 _ c.cells-n.ensures _ c.before-from.ensures _ c.segments-to.ensures _ _ b.costs_after b.grown in record { laid = c.requires.laid; limited = c.requires.limited; over = c.requires.over; searching = r.0; costs_value = r.1; }
+run-requires c = let r = run_asks _ c.requires.laid _ c.args.costs.now c.requires.l_in_bounds c.requires.l_in_bounds_2 _ c.cells-n.ensures _ c.before-from.ensures _ c.segments-to.ensures _ _ c.begin.ensures.costs_after c.begin.ensures.grown in record { laid = c.requires.laid; limited = c.requires.limited; over = c.requires.over; searching = r.0; costs_value = r.1 }
 
 pub returns : goal.returns
-returns c =  let b = c.begin.ensures in let r = c.run.ensures in
-    let r = seek_is _ c.requires.laid _ c.args.costs.now c.requires.l_in_bounds c.requires.l_in_bounds_2 _ c.cells-n.ensures _ c.before-from.ensures _ c.segments-to.ensures _ _ b.costs_after b.grown _ _ _ _ r.u_after r.only r.costs_len_unchanged in
-    record { u_after = r.0; only = r.1.0; costs_len_unchanged = r.1.1; }
+returns c =
+    let r = seek_is _ c.requires.laid _ c.args.costs.now c.requires.l_in_bounds c.requires.l_in_bounds_2 _ c.cells-n.ensures _ c.before-from.ensures _ c.segments-to.ensures _ _ c.begin.ensures.costs_after c.begin.ensures.grown _ _ _ _ c.run.ensures.u_after c.run.ensures.only c.run.ensures.costs_len_unchanged in
+    record { u_after = r.0; only = r.1.0; costs_len_unchanged = r.1.1 }

@@ -13,25 +13,25 @@ use borrow.Author.Rules.{rules}
 use Rattle.links.proofs.search.visit.Goals as goal
 
 pub returns-in_default : goal.returns-in_default
-returns-in_default c = 
+returns-in_default c =
     let r = visit_off _ _ _ _ c.requires.searching _ _ _ _ c.beside-b.ensures c.in_default.is in
-    record { costs_after = r.0; visited = r.1.0; upper_bound = r.1.1; }
+    record { costs_after = r.0; visited = r.1.0; upper_bound = r.1.1 }
 
 pub reaches-requires : goal.reaches-requires
-reaches-requires c = record { laid = c.requires.laid; node = beside_node _ _ _ _ _ c.beside-b.ensures c.in-At.is; limited = c.requires.limited; over = c.requires.over; over_2 = subst (λ (q : List ℕ). Over c.args.l.grid (length q)) (sym (squares-lent c.args.l _ c.cells-n.ensures _ c.before-from.ensures _ c.segments-to.ensures c.args.u.now)) (squares-over _ _ _ _ c.requires.searching c.requires.laid); }
+reaches-requires c = record { laid = c.requires.laid; node = beside_node _ _ _ _ _ c.beside-b.ensures c.in-At.is; limited = c.requires.limited; over = c.requires.over; over_2 = subst (λ (q : List ℕ). Over c.args.l.grid (length q)) (sym (squares-lent c.args.l _ c.cells-n.ensures _ c.before-from.ensures _ c.segments-to.ensures c.args.u.now)) (squares-over _ _ _ _ c.requires.searching c.requires.laid) }
 
 pub slice_bounds-offer-end : goal.slice_bounds-offer-end
 slice_bounds-offer-end c = omega (arith, c.segments-to.ensures, c.cells-n.ensures, c.requires.searching.long)
 
 pub offer-requires : goal.offer-requires
-offer-requires c = record { laid = c.requires.laid; node = c.requires.node; node_2 = beside_node _ _ _ _ _ c.beside-b.ensures c.in-At.is; ready = subst (λ (w : List ℕ). Ready (nodes c.args.l) c.args.m w c.args.costs.now) (sym (words-lent c.args.l _ c.cells-n.ensures _ c.before-from.ensures _ c.segments-to.ensures c.args.u.now)) c.requires.searching.ready; m_bound = c.requires.m_bound; }
+offer-requires c = record { laid = c.requires.laid; node = c.requires.node; node_2 = beside_node _ _ _ _ _ c.beside-b.ensures c.in-At.is; ready = subst (λ (w : List ℕ). Ready (nodes c.args.l) c.args.m w c.args.costs.now) (sym (words-lent c.args.l _ c.cells-n.ensures _ c.before-from.ensures _ c.segments-to.ensures c.args.u.now)) c.requires.searching.ready; m_bound = c.requires.m_bound }
 
 pub returns-then-reaches : goal.returns-then-reaches
-returns-then-reaches c = 
+returns-then-reaches c =
     let r = visit_yes _ _ _ _ c.requires.searching _ _ _ _ c.beside-b.ensures _ c.in-At.is _ (c.reaches.ensures ∙ ap (λ (q : List ℕ). reachable c.args.l c.args.allowed.now q c.in-At.t) (squares-lent c.args.l _ c.cells-n.ensures _ c.before-from.ensures _ c.segments-to.ensures c.args.u.now)) _ c.cells-n.ensures _ c.before-from.ensures _ c.segments-to.ensures c.if-reaches.true _ _ _ c.offer.ensures.costs_after c.offer.ensures.grown c.offer.ensures.upper_bound in
-    record { costs_after = r.0; visited = r.1.0; upper_bound = r.1.1; }
+    record { costs_after = r.0; visited = r.1.0; upper_bound = r.1.1 }
 
 pub returns : goal.returns
-returns c = 
+returns c =
     let r = visit_not _ _ _ _ c.requires.searching _ _ _ _ c.beside-b.ensures _ c.in-At.is _ (c.reaches.ensures ∙ ap (λ (q : List ℕ). reachable c.args.l c.args.allowed.now q c.in-At.t) (squares-lent c.args.l _ c.cells-n.ensures _ c.before-from.ensures _ c.segments-to.ensures c.args.u.now)) c.if-reaches.false in
-    record { costs_after = r.0; visited = r.1.0; upper_bound = r.1.1; }
+    record { costs_after = r.0; visited = r.1.0; upper_bound = r.1.1 }

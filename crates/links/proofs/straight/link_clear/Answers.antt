@@ -7,7 +7,7 @@ pub returns-then-n-gt200000 : goal.returns-then-n-gt200000
 returns-then-n-gt200000 c = link-long _ _ _ _ _ _ _ _ c.steps_of-n.ensures c.if-n-gt200000.true
 
 pub samples_clear-requires : goal.samples_clear-requires
-samples_clear-requires c =  let p = c.requires in record { walls = p.walls; over = p.over; tiled = p.tiled; tables = p.tables; n_bound = c.if-n-gt200000.false; }
+samples_clear-requires c = record { walls = c.requires.walls; over = c.requires.over; tiled = c.requires.tiled; tables = c.requires.tables; n_bound = c.if-n-gt200000.false }
 
 pub returns-then-samples_clear : goal.returns-then-samples_clear
 returns-then-samples_clear c = link-judged _ _ _ _ _ _ _ _ c.steps_of-n.ensures c.if-n-gt200000.false _ c.samples_clear.ensures c.if-samples_clear.true _ c.count_disk.ensures

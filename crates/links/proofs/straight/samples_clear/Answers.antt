@@ -20,16 +20,16 @@ pub loop-k-init : goal.loop-k-init
 loop-k-init c = going_none _ _ _ _
 
 pub clear_at-requires : goal.clear_at-requires
-clear_at-requires c =  let p = c.requires in record { walls = p.walls; over = p.over; tiled = p.tiled; tables = p.tables; }
+clear_at-requires c = record { walls = c.requires.walls; over = c.requires.over; tiled = c.requires.tiled; tables = c.requires.tables }
 
 pub returns-then-not-clear_at : goal.returns-then-not-clear_at
 unfolding samples_clear
-returns-then-not-clear_at c =    let l = c.loop-k in
-    ap not (any_out _ _ _ l.k l.invariant c.loop-k-test.true (answer (goal.at.returns-then-not-clear_at c).After-clear_at ∙ c.if-not-clear_at.true))
+returns-then-not-clear_at c = let l = c.loop-k in
+    ap not (any_out _ _ _ l.k l.invariant c.loop-k-test.true (answer (goal.at.returns-then-not-clear_at c).After-clear_at ∙ (ap not c.if-not-clear_at.true)))
 
 pub loop-k-preserved : goal.loop-k-preserved
-loop-k-preserved c =    let l = c.loop-k in
-    any-on _ _ _ l.k l.invariant c.loop-k-test.true (answer (goal.at.loop-k-preserved c).After-clear_at ∙ c.if-not-clear_at.false)
+loop-k-preserved c = let l = c.loop-k in
+    any-on _ _ _ l.k l.invariant c.loop-k-test.true (answer (goal.at.loop-k-preserved c).After-clear_at ∙ (ap not c.if-not-clear_at.false))
 
 pub returns : goal.returns
 unfolding samples_clear

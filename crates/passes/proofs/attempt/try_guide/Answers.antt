@@ -16,7 +16,7 @@ pub slice_bounds-simulate-end : goal.slice_bounds-simulate-end
 slice_bounds-simulate-end c = sym (c.fill.auto.tiles ∙ tiles_long)
 
 pub simulate-t-requires : goal.simulate-t-requires
-simulate-t-requires c =  let p = c.requires in record { walls = p.walls; tables = p.tables; usable = p.usable; tiled = c.fill.ensures; }
+simulate-t-requires c = record { walls = c.requires.walls; tables = c.requires.tables; usable = c.requires.usable; tiled = c.fill.ensures; }
 
 pub undo-requires : goal.undo-requires
 undo-requires c = tried-logged _ _ _ _ _ _ _ _ _ _ _ c.simulate-t.ensures c.requires.usable.ready

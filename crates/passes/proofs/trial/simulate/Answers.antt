@@ -61,7 +61,7 @@ pub loop-k-init : goal.loop-k-init
 loop-k-init c = (going_none _ _ _ _, safe_again _ _ _ c.outer.invariant.1)
 
 pub find_shift-f-requires : goal.find_shift-f-requires
-find_shift-f-requires c =  let p = c.requires in let h = all-safe (goal.at.find_shift-f-requires c).At-loop-k in record { walls = p.walls; tables = p.tables; over = over-same _ _ _ h.cells-long p.usable.over; tiled = tiled_fewer _ _ _ _ h.fewer p.tiled; }
+find_shift-f-requires c =  let h = all-safe (goal.at.find_shift-f-requires c).At-loop-k in record { walls = c.requires.walls; tables = c.requires.tables; over = over-same _ _ _ h.cells-long c.requires.usable.over; tiled = tiled_fewer _ _ _ _ h.fewer c.requires.tiled; }
 
 pub enum_known-found : goal.enum_known-found
 enum_known-found c = c.in-At.keys1

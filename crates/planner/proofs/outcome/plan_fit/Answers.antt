@@ -14,5 +14,4 @@ plan_ready-requires c =
     record { standing = r.0; s_in_bounds = r.1; }
 
 pub returns : goal.returns
-returns c =    let e = c.make_ready.ensures in
-    fit_outcome _ _ _ _ _ _ _ _ _ _ _ _ c.requires _ c.setup_of-s.ensures _ _ _ _ _ _ e.f_after e.rows_after e.triples_after c.make_ready.auto.b c.make_ready.auto.u c.make_ready.auto.w e.started _ c.plan_ready.ensures
+returns c =    fit_outcome _ _ _ _ _ _ _ _ _ _ _ _ c.requires _ c.setup_of-s.ensures _ _ _ _ _ _ c.make_ready.ensures.f_after c.make_ready.ensures.rows_after c.make_ready.ensures.triples_after c.make_ready.auto.b c.make_ready.auto.u c.make_ready.auto.w c.make_ready.ensures.started _ c.plan_ready.ensures

@@ -7,7 +7,7 @@ use borrow.Author.Rules.{rules}
 use Rattle.rounds.proofs.next.nearest.Goals as goal
 
 pub candidate_at-best-requires : goal.candidate_at-best-requires
-candidate_at-best-requires c =  let p = c.requires in record { k_in_bounds = omega (arith, p.readable.lent, p.le_m); read = p.readable.each 0 p.le_m; }
+candidate_at-best-requires c = record { k_in_bounds = omega (arith, c.requires.readable.lent, c.requires.le_m); read = c.requires.readable.each 0 c.requires.le_m; }
 
 pub loop-k-init : goal.loop-k-init
 loop-k-init c = next-first _ _ _ _ c.requires.le_m _ c.candidate_at-best.ensures

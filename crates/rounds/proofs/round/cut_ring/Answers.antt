@@ -7,7 +7,7 @@ use borrow.Author.Rules.{rules}
 use Rattle.rounds.proofs.round.cut_ring.Goals as goal
 
 pub loop-i-init : goal.loop-i-init
-loop-i-init c = let p = c.requires in cutting_none _ _ _ _ _ _ _ _ _ _ in_order all_stay p.standing p.lying p.listed
+loop-i-init c = cutting_none _ _ _ _ _ _ _ _ _ _ in_order all_stay c.requires.standing c.requires.lying c.requires.listed
 
 pub read-p-requires : goal.read-p-requires
 read-p-requires c =  let C = c.loop-i.invariant in let p = words-ask _ _ _ _ _ _ C.standing in record { n_le_most = p.0; n_in_bounds = p.1.0; k_lt_n = omega (arith, c.loop-i-test.true, C.lies.lying.few); }
@@ -19,15 +19,15 @@ cut_next-c-requires c =
 
 pub returns-in-Refused : goal.returns-in-Refused
 unfolding cut_ring_of
-returns-in-Refused c =  let e = c.cut_next-c.ensures in
-    let r = cutting_stops _ _ _ _ _ _ _ _ _ _ _ _ _ _ _ _ _ _ _ _ _ c.loop-i.invariant c.loop-i-test.true _ _ _ (ring_taken _ _ _ _ _ _ _ _ _ _ _ _ _ _ _ _ _ _ c.loop-i-test.true c.loop-i.invariant _ c.read-p.ensures) _ _ _ _ _ _ e.result_after e.settled e.behind e.only _ c.in-Refused.is in
+returns-in-Refused c = 
+    let r = cutting_stops _ _ _ _ _ _ _ _ _ _ _ _ _ _ _ _ _ _ _ _ _ c.loop-i.invariant c.loop-i-test.true _ _ _ (ring_taken _ _ _ _ _ _ _ _ _ _ _ _ _ _ _ _ _ _ c.loop-i-test.true c.loop-i.invariant _ c.read-p.ensures) _ _ _ _ _ _ c.cut_next-c.ensures.result_after c.cut_next-c.ensures.settled c.cut_next-c.ensures.behind c.cut_next-c.ensures.only _ c.in-Refused.is in
     record { result_after = r.0; cells_kept = r.1.0; b_unchanged = r.1.1.0; u_len_unchanged = r.1.1.1.0; only = r.1.1.1.1.0; lists = r.1.1.1.1.1; }
 
 pub overflow_step-i : goal.overflow_step-i
 overflow_step-i c = let C = c.loop-i.invariant in omega (arith, c.loop-i-test.true, C.lies.lying.few, C.standing.sides.cells)
 
 pub loop-i-preserved : goal.loop-i-preserved
-loop-i-preserved c = let e = c.cut_next-c.ensures in cutting_more _ _ _ _ _ _ _ _ _ _ _ _ _ _ _ _ _ _ _ _ _ c.loop-i.invariant c.loop-i-test.true _ _ _ (ring_taken _ _ _ _ _ _ _ _ _ _ _ _ _ _ _ _ _ _ c.loop-i-test.true c.loop-i.invariant _ c.read-p.ensures) _ _ _ _ _ _ e.result_after e.settled e.behind e.only _ _ c.in-After.is
+loop-i-preserved c = cutting_more _ _ _ _ _ _ _ _ _ _ _ _ _ _ _ _ _ _ _ _ _ c.loop-i.invariant c.loop-i-test.true _ _ _ (ring_taken _ _ _ _ _ _ _ _ _ _ _ _ _ _ _ _ _ _ c.loop-i-test.true c.loop-i.invariant _ c.read-p.ensures) _ _ _ _ _ _ c.cut_next-c.ensures.result_after c.cut_next-c.ensures.settled c.cut_next-c.ensures.behind c.cut_next-c.ensures.only _ _ c.in-After.is
 
 pub returns : goal.returns
 unfolding cut_ring_of

@@ -11,8 +11,7 @@ pub nudge_at-requires : goal.nudge_at-requires
 nudge_at-requires c =     let z = nudging_asks c.args.s _ _ _ c.requires.s_in_bounds _ _ c.loop-k.invariant.1 c.requires.walls in record { walls = z.0; s_in_bounds = z.1; k_bound = omega (arith, c.requires.m_bound, c.loop-k-test.true); }
 
 pub loop-k-preserved : goal.loop-k-preserved
-loop-k-preserved c =    let e = c.nudge_at.ensures in
-    (omega arith, nudging_more c.args.s _ _ _ c.requires.s_in_bounds _ _ c.loop-k.invariant.1 _ e.w_after e.only)
+loop-k-preserved c =    (omega arith, nudging_more c.args.s _ _ _ c.requires.s_in_bounds _ _ c.loop-k.invariant.1 _ c.nudge_at.ensures.w_after c.nudge_at.ensures.only)
 
 pub shape_of-w : goal.shape_of-w
 shape_of-w c = c.loop-k.invariant.1.only.long

@@ -9,5 +9,4 @@ nudge_all-requires c =
     record { walls = r.0; s_in_bounds = r.1.0; m_bound = r.1.1; }
 
 pub returns : goal.returns
-returns c =    let e = c.nudge_all.ensures in
-    ring_traced c.args.s _ _ _ _ _ _ c.requires.standing c.requires.s_in_bounds _ c.cells-n.ensures _ c.lay_ring.ensures _ _ _ _ _ _ c.ring-r.ensures c.trace-c.ensures.laying c.trace-c.ensures.beside _ e.w_after e.only
+returns c =    ring_traced c.args.s _ _ _ _ _ _ c.requires.standing c.requires.s_in_bounds _ c.cells-n.ensures _ c.lay_ring.ensures _ _ _ _ _ _ c.ring-r.ensures c.trace-c.ensures.laying c.trace-c.ensures.beside _ c.nudge_all.ensures.w_after c.nudge_all.ensures.only
