@@ -7,6 +7,7 @@ use Rattle.loops.proofs.CellLaws.{ones_le, ones-mark}
 use Rattle.geom.specs.Points.{put_point}
 use Rattle.geom.specs.declared.vec2.Vec2.{Vec2}
 use Rattle.raster.specs.declared.grid.Grid.{Grid}
+use Rattle.raster.specs.Grid.{Sides}
 use Rattle.contours.specs.declared.chain.Trail.{Trail}
 use Rattle.contours.specs.declared.edge.EdgeNo.{EdgeNo}
 use Rattle.contours.specs.Edge.{edge, nothing, Between}
@@ -16,13 +17,9 @@ use Rattle.contours.proofs.FollowLaws.{Following, following_none, following_more
 use Rattle.contours.proofs.chain.chain.Goals as goal
 use Rattle.contours.proofs.chain.chain.Goals.{After-next_of-n, At-loop-g, Else-is_nothing, Else-is_used, Else-same_edge, Start, Then-is_nothing, Then-is_used, Then-same_edge}
 
--- whatever the slices were before the first edge was put
-pub record Inv (at : ℕ → Vec2) (g : Grid) (next marks₀ : List ℕ) (pts₀ : List Float) (first s : ℕ) (marks : List ℕ) (pts : List Float) (t : Trail) (cur : ℕ) : Type 0 where
-  pub following : (m : List ℕ) (w : List Float) → Chaining g next m w first s → s < length m → marks₀ ≡ set m s 1 → pts₀ ≡ put_point first (at s) w → Following at next m w first s marks pts t cur
-
 -- an edge of the grid has its place in the tables
-below : (c : Start) (n : ℕ) → Between c.args.g (edge n) → n < length c.args.marks.now
-below c n b = omega (arith, edge-below c.args.g (edge n) c.requires.over.sides b, c.requires.chaining.marks-long)
+below : (g : Grid) (next marks : List ℕ) (pts : List Float) (first s n : ℕ) → Sides g → Chaining g next marks pts first s → Between g (edge n) → n < length marks
+below g next marks pts first s n h p b = omega (arith, edge-below g (edge n) h b, p.marks-long)
 
 -- at each turn, with the slices as they were lent
 follows : (c : At-loop-g) → let a = c.args in
@@ -30,60 +27,60 @@ follows : (c : At-loop-g) → let a = c.args in
 follows c =
     let p = c.requires.chaining in
     let a = c.args in
-    c.loop-g.invariant.following _ _ p (below c.before.before.before.before.before.before.before.before.before.before.before.before.before.before _ p.start) c.use_edge.ensures (c.put.ensures ∙ ap (λ (q : Vec2). put_point a.first q a.pts.now) c.crossing-p.ensures)
+    c.loop-g.invariant.following _ _ p (below _ _ _ _ _ _ _ c.requires.over.sides p p.start) c.use_edge.ensures (c.put.ensures ∙ ap (λ (q : Vec2). put_point a.first q a.pts.now) c.crossing-p.ensures)
 
 -- the number of the edge that follows
-abbrev n-at : tie.At-loop invariant-loop decreases-loop → ℕ
-n-at c = get_or c.before.before.before.before.before.before.before.before.before.before.before.before.before.before.args.next.now c.loop.cur.0 0
+abbrev n-at : List ℕ → ℕ → ℕ
+n-at next cur = get_or next cur 0
 
-n_is : (c : After-next_of-n) → c.next_of-n.result.0 ≡ n-at c.before
+n_is : (c : After-next_of-n) → c.next_of-n.result.0 ≡ n-at c.args.next.now c.loop-g.cur.0
 n_is c = ap (λ (e : EdgeNo). e.0) c.next_of-n.ensures
 
 -- it is one of the grid, and has its place in the tables
-leads : (c : At-loop-g) → (n-at c ≡ nothing → ⊥) → Between c.args.g (edge (n-at c))
+leads : (c : At-loop-g) → (n-at c.args.next.now c.loop-g.cur.0 ≡ nothing → ⊥) → Between c.args.g (edge (n-at c.args.next.now c.loop-g.cur.0))
 leads c e = let p = c.requires.chaining in p.leads.to c.loop-g.cur.0 (omega (arith, (follows c).walked.here, p.next-long, p.marks-long)) (ne_eqb _ _ e)
 
-placed : (c : At-loop-g) → (n-at c ≡ nothing → ⊥) → n-at c < length c.args.marks.now
-placed c e = below c.before.before.before.before.before.before.before.before.before.before.before.before.before.before _ (leads c e)
+placed : (c : At-loop-g) → (n-at c.args.next.now c.loop-g.cur.0 ≡ nothing → ⊥) → n-at c.args.next.now c.loop-g.cur.0 < length c.args.marks.now
+placed c e = below _ _ _ _ _ _ _ c.requires.over.sides c.requires.chaining (leads c e)
 
 -- the tables' edges have room for their points
 wide : (c : Start) → 2 * length c.args.marks.now ≤ length c.args.pts.now
 wide c = omega (arith, c.requires.chaining.marks-long, c.requires.chaining.pts-long)
 
 -- what the tests say of it
-is_none : (c : Then-is_nothing) → n-at c.before.before.before ≡ nothing
-is_none c = sym ((let told : c.next_of-n.result.0 ≡ n-at c.before = ap (λ (e : EdgeNo). e.0) c.next_of-n.ensures in told)) ∙ eqb-true _ _ (sym c.is_nothing.ensures ∙ c.if-is_nothing.true)
+is_none : (c : Then-is_nothing) → n-at c.args.next.now c.loop-g.cur.0 ≡ nothing
+is_none c = sym ((let told : c.next_of-n.result.0 ≡ n-at c.args.next.now c.loop-g.cur.0 = ap (λ (e : EdgeNo). e.0) c.next_of-n.ensures in told)) ∙ eqb-true _ _ (sym c.is_nothing.ensures ∙ c.if-is_nothing.true)
 
-not_none : (c : Else-is_nothing) → n-at c.before.before.before ≡ nothing → ⊥
-not_none c z = eqb-false _ _ (sym c.is_nothing.ensures ∙ c.if-is_nothing.false) ((let told : c.next_of-n.result.0 ≡ n-at c.before = ap (λ (e : EdgeNo). e.0) c.next_of-n.ensures in told) ∙ z)
+not_none : (c : Else-is_nothing) → n-at c.args.next.now c.loop-g.cur.0 ≡ nothing → ⊥
+not_none c z = eqb-false _ _ (sym c.is_nothing.ensures ∙ c.if-is_nothing.false) ((let told : c.next_of-n.result.0 ≡ n-at c.args.next.now c.loop-g.cur.0 = ap (λ (e : EdgeNo). e.0) c.next_of-n.ensures in told) ∙ z)
 
-is-first : (c : Then-same_edge) → n-at c.before.before.before.before.before ≡ c.args.s.0
-is-first c = sym ((let told : c.next_of-n.result.0 ≡ n-at c.before = ap (λ (e : EdgeNo). e.0) c.next_of-n.ensures in told)) ∙ eqb-true _ _ (sym c.same_edge.ensures ∙ c.if-same_edge.true)
+is-first : (c : Then-same_edge) → n-at c.args.next.now c.loop-g.cur.0 ≡ c.args.s.0
+is-first c = sym ((let told : c.next_of-n.result.0 ≡ n-at c.args.next.now c.loop-g.cur.0 = ap (λ (e : EdgeNo). e.0) c.next_of-n.ensures in told)) ∙ eqb-true _ _ (sym c.same_edge.ensures ∙ c.if-same_edge.true)
 
-not_first : (c : Else-same_edge) → n-at c.before.before.before.before.before ≡ c.args.s.0 → ⊥
-not_first c z = eqb-false _ _ (sym c.same_edge.ensures ∙ c.if-same_edge.false) ((let told : c.next_of-n.result.0 ≡ n-at c.before = ap (λ (e : EdgeNo). e.0) c.next_of-n.ensures in told) ∙ z)
+not_first : (c : Else-same_edge) → n-at c.args.next.now c.loop-g.cur.0 ≡ c.args.s.0 → ⊥
+not_first c z = eqb-false _ _ (sym c.same_edge.ensures ∙ c.if-same_edge.false) ((let told : c.next_of-n.result.0 ≡ n-at c.args.next.now c.loop-g.cur.0 = ap (λ (e : EdgeNo). e.0) c.next_of-n.ensures in told) ∙ z)
 
-used : (c : Then-is_used) → get_or c.loop-g.marks (n-at c.before.before.before.before.before.before.before.before) 0 ≡ 1
-used c = ap (λ (k : ℕ). get_or c.loop-g.marks k 0) (sym ((let told : c.next_of-n.result.0 ≡ n-at c.before = ap (λ (e : EdgeNo). e.0) c.next_of-n.ensures in told))) ∙ eqb-true _ _ (sym c.is_used.ensures ∙ c.if-is_used.true)
+used : (c : Then-is_used) → get_or c.loop-g.marks (n-at c.args.next.now c.loop-g.cur.0) 0 ≡ 1
+used c = ap (λ (k : ℕ). get_or c.loop-g.marks k 0) (sym ((let told : c.next_of-n.result.0 ≡ n-at c.args.next.now c.loop-g.cur.0 = ap (λ (e : EdgeNo). e.0) c.next_of-n.ensures in told))) ∙ eqb-true _ _ (sym c.is_used.ensures ∙ c.if-is_used.true)
 
-fresh : (c : Else-is_used) → get_or c.loop-g.marks (n-at c.before.before.before.before.before.before.before.before) 0 ≡ 1 → ⊥
-fresh c z = eqb-false _ _ (sym c.is_used.ensures ∙ c.if-is_used.false) (ap (λ (k : ℕ). get_or c.loop-g.marks k 0) ((let told : c.next_of-n.result.0 ≡ n-at c.before = ap (λ (e : EdgeNo). e.0) c.next_of-n.ensures in told)) ∙ z)
+fresh : (c : Else-is_used) → get_or c.loop-g.marks (n-at c.args.next.now c.loop-g.cur.0) 0 ≡ 1 → ⊥
+fresh c z = eqb-false _ _ (sym c.is_used.ensures ∙ c.if-is_used.false) (ap (λ (k : ℕ). get_or c.loop-g.marks k 0) ((let told : c.next_of-n.result.0 ≡ n-at c.args.next.now c.loop-g.cur.0 = ap (λ (e : EdgeNo). e.0) c.next_of-n.ensures in told)) ∙ z)
 
 pub use_edge-requires : goal.use_edge-requires
-use_edge-requires c = below (goal.at.use_edge-requires c).Start _ c.requires.chaining.start
+use_edge-requires c = below _ _ _ _ _ _ _ c.requires.over.sides c.requires.chaining c.requires.chaining.start
 
 pub crossing-p-requires : goal.crossing-p-requires
-crossing-p-requires c = record { over = c.requires.over; between = c.requires.chaining.start; }
+crossing-p-requires c = record { over = c.requires.over; between = c.requires.chaining.start }
 
 pub put-requires : goal.put-requires
-put-requires c =    let p = c.requires.chaining in
+put-requires c = let p = c.requires.chaining in
     let a = c.args in
-    first-room (edge_point a.g a.f.now a.level) a.next.now a.marks.now a.pts.now a.first a.s.0 p.room (below (goal.at.put-requires c).Start _ p.start) p.unused (omega (arith, p.marks-long, p.pts-long))
+    first-room (edge_point a.g a.f.now a.level) a.next.now a.marks.now a.pts.now a.first a.s.0 p.room (below _ _ _ _ _ _ _ c.requires.over.sides p p.start) p.unused (omega (arith, p.marks-long, p.pts-long))
 
 pub loop-g-init : goal.loop-g-init
-loop-g-init c =    record {
-      following = λ m w h b d e. rw (d, e, c.crossing-p.ensures) (following_none _ _ m w _ _ h.room b h.unused (omega (arith, h.marks-long, h.pts-long)));
-    }
+loop-g-init c = record {
+  following = λ m w h b d e. rw (d, e, c.crossing-p.ensures) (following_none _ _ m w _ _ h.room b h.unused (omega (arith, h.marks-long, h.pts-long)));
+}
 
 pub next_of-n-requires : goal.next_of-n-requires
 next_of-n-requires c = let p = c.requires.chaining in omega (arith, (follows (goal.at.next_of-n-requires c).At-loop-g).walked.here, p.next-long, p.marks-long)
@@ -122,13 +119,13 @@ pub use_edge-requires-in-loop-g : goal.use_edge-requires-in-loop-g
 use_edge-requires-in-loop-g c = omega (arith, placed (goal.at.use_edge-requires-in-loop-g c).At-loop-g (not_none (goal.at.use_edge-requires-in-loop-g c).Else-is_nothing), (follows (goal.at.use_edge-requires-in-loop-g c).At-loop-g).walked.long, n_is (goal.at.use_edge-requires-in-loop-g c).After-next_of-n)
 
 pub crossing-requires : goal.crossing-requires
-crossing-requires c = record { over = c.requires.over; between = subst (Between c.args.g) (sym c.next_of-n.ensures) (leads (goal.at.crossing-requires c).At-loop-g (not_none (goal.at.crossing-requires c).Else-is_nothing)); }
+crossing-requires c = record { over = c.requires.over; between = subst (Between c.args.g) (sym c.next_of-n.ensures) (leads (goal.at.crossing-requires c).At-loop-g (not_none (goal.at.crossing-requires c).Else-is_nothing)) }
 
 pub extend-t-requires : goal.extend-t-requires
 extend-t-requires c = point-room _ _ _ _ _ _ c.requires.chaining.room _ _ _ _ _ (follows (goal.at.extend-t-requires c).At-loop-g) (placed (goal.at.extend-t-requires c).At-loop-g (not_none (goal.at.extend-t-requires c).Else-is_nothing)) (fresh (goal.at.extend-t-requires c).Else-is_used) (wide (goal.at.extend-t-requires c).Start)
 
 pub loop-g-smaller : goal.loop-g-smaller
-loop-g-smaller c =    let m = c.loop-g.marks in
+loop-g-smaller c = let m = c.loop-g.marks in
     let n = get_or c.args.next.now c.loop-g.cur.0 0 in
     let b = placed (goal.at.loop-g-smaller c).At-loop-g (not_none (goal.at.loop-g-smaller c).Else-is_nothing) in
     let w = (follows (goal.at.loop-g-smaller c).At-loop-g).walked.long in
@@ -137,7 +134,7 @@ loop-g-smaller c =    let m = c.loop-g.marks in
     omega (arith, u, o, ones-mark m n (omega arith) (ne_eqb _ _ (fresh (goal.at.loop-g-smaller c).Else-is_used)), ones_le (set m n 1), length-set m n 1, length-set c.args.marks.now c.args.s.0 1)
 
 pub loop-g-preserved : goal.loop-g-preserved
-loop-g-preserved c =    let a = c.args in
+loop-g-preserved c = let a = c.args in
     let x = c.extend-t.ensures in
     record {
       following = λ m w h b d e.

@@ -15,6 +15,10 @@ use Rattle.contours.proofs.EdgeLaws.{edge-below}
 use Rattle.contours.proofs.FollowLaws.{Following, following_none, following_more, out_open, out-closed, out-used, point-room, first-room}
 use Rattle.contours.proofs.chain.chain.Given as goal
 
+-- whatever the slices were before the first edge was put
+pub record Inv (at : ℕ → Vec2) (g : Grid) (next marks₀ : List ℕ) (pts₀ : List Float) (first s : ℕ) (marks : List ℕ) (pts : List Float) (t : Trail) (cur : ℕ) : Type 0 where
+  pub following : (m : List ℕ) (w : List Float) → Chaining g next m w first s → s < length m → marks₀ ≡ set m s 1 → pts₀ ≡ put_point first (at s) w → Following at next m w first s marks pts t cur
+
 abbrev pub invariant-loop-g : goal.invariant-loop-g
 invariant-loop-g l = Inv (edge_point l.g l.f l.level) l.g l.next l.initial.marks l.initial.pts l.first l.s.0 l.marks l.pts l.t l.cur.0
 

@@ -33,7 +33,7 @@ pub edge_at-s-requires : goal.edge_at-s-requires
 edge_at-s-requires c = let h = placed (goal.at.edge_at-s-requires c).In-loop-k in omega (arith, h.0, h.1)
 
 pub start_at-c-requires : goal.start_at-c-requires
-start_at-c-requires c = record { over = c.requires.over; tracing = c.loop-k.invariant.0.tracing; between = subst (Between c.args.g) (sym c.edge_at-s.ensures) (joins (goal.at.start_at-c-requires c).In-loop-k).from; }
+start_at-c-requires c = record { over = c.requires.over; tracing = c.loop-k.invariant.0.tracing; between = subst (Between c.args.g) (sym c.edge_at-s.ensures) (joins (goal.at.start_at-c-requires c).In-loop-k).from }
 
 pub overflow_step-k : goal.overflow_step-k
 overflow_step-k c = let h = placed (goal.at.overflow_step-k c).In-loop-k in omega (arith, h.0, h.2)
@@ -42,7 +42,7 @@ pub loop-k-smaller : goal.loop-k-smaller
 loop-k-smaller c = omega (arith, c.loop-k-test.true)
 
 pub loop-k-preserved : goal.loop-k-preserved
-loop-k-preserved c =    let l = c.loop-k in
+loop-k-preserved c = let l = c.loop-k in
     let a = c.args in
     let h = placed (goal.at.loop-k-preserved c).In-loop-k in (
       tour_more (edge_point a.g a.f.now a.level) a.g a.n a.first a.words.now a.pts.now _ l.k l.words l.marks l.pts l.c l.invariant.0 _
@@ -60,7 +60,7 @@ pub shape_of-pts : goal.shape_of-pts
 shape_of-pts c = c.loop-k.invariant.0.pts-long
 
 pub returns : goal.returns
-returns c =    let l = c.loop-k in
+returns c = let l = c.loop-k in
     let a = c.args in
     subst
     (λ (k : ℕ). Traced a.g a.n (toured (edge_point a.g a.f.now a.level) a.g a.n a.first a.words.now a.pts.now (chains a.marks.now (pieces_in a.n a.so a.words.now a.pts.now)) k) a.words.now a.pts.now l.words l.marks l.pts l.c)

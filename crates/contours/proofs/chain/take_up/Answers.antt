@@ -7,7 +7,7 @@ use Rattle.contours.proofs.chain.take_up.Goals as goal
 
 pub chain-k-requires : goal.chain-k-requires
 unfolding within
-chain-k-requires c = record { over = c.requires.over; chaining = rw (c.next_at-next.ensures, c.rows_at-rows.ensures) (chaining _ _ _ _ _ _ c.requires.tracing _ c.requires.startable); }
+chain-k-requires c = record { over = c.requires.over; chaining = rw (c.next_at-next.ensures, c.rows_at-rows.ensures) (chaining _ _ _ _ _ _ c.requires.tracing _ c.requires.startable) }
 
 pub returns-then-kept-lt2 : goal.returns-then-kept-lt2
 unfolding within
@@ -35,7 +35,7 @@ overflow_add-result-2 c = omega (arith, c.requires.over.sides.cells, c.requires.
 
 pub returns : goal.returns
 unfolding within
-returns c =    let y = c.rows_at-rows.ensures in
+returns c = let y = c.rows_at-rows.ensures in
     let z = c.words_end-end.ensures in
     traced_more _ _ _ _ _ _ c.requires.tracing _ _ _ _ _ _ (followed_there _ _ _ _ _ _ _ _ _ _ _ _ _ c.next_at-next.ensures c.rows_at-rows.ensures c.chain-k.ensures) c.if-kept-lt2.false _
     (put_is _ _ _ (record { start = omega (arith, y, z); end = omega (arith, y, z, c.requires.tracing.words_long) }) _ _ c.put_row.ensures ∙ rows_there _ _ _ _ _ _ y z)

@@ -10,12 +10,12 @@ pub loop-k-init : goal.loop-k-init
 loop-k-init c = (going_none _ _ _ _, going_none _ _ _ _)
 
 pub loop-k-preserved : goal.loop-k-preserved
-loop-k-preserved c =    let v = c.loop-k.invariant in
+loop-k-preserved c = let v = c.loop-k.invariant in
     let t = c.loop-k-test.true in
     (going_more _ _ _ _ _ _ _ v.0 t refl, going_more _ _ _ _ _ _ _ v.1 t refl)
 
 pub returns : goal.returns
 unfolding signs_of any
-returns c =    let v = c.loop-k.invariant in
+returns c = let v = c.loop-k.invariant in
     let d = c.loop-k-test.false in
     rw (going_end _ _ _ _ _ _ v.0 d, going_end _ _ _ _ _ _ v.1 d)

@@ -49,4 +49,4 @@ returns-in-13 c = rw c.in-13.is
 
 pub returns-in_default : goal.returns-in_default
 unfolding cut_of
-returns-in_default c = rw (ne_eqb _ 1 c.in_default.rest.0.0.0.0.0.0.0.0.0.0.1, ne_eqb _ 2 c.in_default.rest.0.0.0.0.0.0.0.0.0.1, ne_eqb _ 3 c.in_default.rest.0.0.0.0.0.0.0.0.1, ne_eqb _ 4 c.in_default.rest.0.0.0.0.0.0.0.1, ne_eqb _ 6 c.in_default.rest.0.0.0.0.0.0.1, ne_eqb _ 7 c.in_default.rest.0.0.0.0.0.1, ne_eqb _ 8 c.in_default.rest.0.0.0.0.1, ne_eqb _ 9 c.in_default.rest.0.0.0.1, ne_eqb _ 11 c.in_default.rest.0.0.1, ne_eqb _ 12 c.in_default.rest.0.1, ne_eqb _ 13 c.in_default.rest.1)
+returns-in_default c = rw (ne_eqb _ 1 c.in_default.in_default-own.rest.0.0.0.0.0.0.0.0.0.0.1, ne_eqb _ 2 c.in_default.in_default-own.rest.0.0.0.0.0.0.0.0.0.1, ne_eqb _ 3 c.in_default.in_default-own.rest.0.0.0.0.0.0.0.0.1, ne_eqb _ 4 c.in_default.in_default-own.rest.0.0.0.0.0.0.0.1, ne_eqb _ 6 c.in_default.in_default-own.rest.0.0.0.0.0.0.1, ne_eqb _ 7 c.in_default.in_default-own.rest.0.0.0.0.0.1, ne_eqb _ 8 c.in_default.in_default-own.rest.0.0.0.0.1, ne_eqb _ 9 c.in_default.in_default-own.rest.0.0.0.1, ne_eqb _ 11 c.in_default.in_default-own.rest.0.0.1, ne_eqb _ 12 c.in_default.in_default-own.rest.0.1, ne_eqb _ 13 c.in_default.in_default-own.rest.1)

@@ -59,7 +59,7 @@ pub loop-k-smaller : goal.loop-k-smaller
 loop-k-smaller c = omega (arith, c.loop-k-test.true)
 
 pub loop-k-preserved : goal.loop-k-preserved
-loop-k-preserved c =    let l = c.loop-k in
+loop-k-preserved c = let l = c.loop-k in
     let p = c.requires in
     let a = c.args in
     let to = ap (λ (e : EdgeNo). e.0) c.edge_at-to.ensures in (
@@ -75,6 +75,6 @@ pub shape_of-marks : goal.shape_of-marks
 shape_of-marks c = c.loop-k.invariant.0.marks-long
 
 pub returns : goal.returns
-returns c =    let l = c.loop-k in
+returns c = let l = c.loop-k in
     let a = c.args in
     subst (λ (k : ℕ). Inserted a.n k a.words.now a.marks.now l.words l.marks) (let z : l.k ≡ a.m = omega (arith, l.invariant.1, c.loop-k-test.false) in z) l.invariant.0

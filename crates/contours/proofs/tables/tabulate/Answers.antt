@@ -6,7 +6,7 @@ use Rattle.contours.proofs.tables.tabulate.Goals as goal
 
 pub insert_all-requires : goal.insert_all-requires
 unfolding within
-insert_all-requires c =    let a = c.args in
+insert_all-requires c = let a = c.args in
     listed_at a.g a.f.now a.level a.n _ a.words.now a.marks.now _ c.requires.over c.requires.sized _ _ c.next_at-next.ensures c.rows_at-rows.ensures c.march-m.ensures _ _ _ _
     refl
     c.fill_words.ensures
@@ -15,7 +15,7 @@ insert_all-requires c =    let a = c.args in
 
 pub returns : goal.returns
 unfolding within
-returns c =    let a = c.args in
+returns c = let a = c.args in
     tabled_at a.g a.f.now a.level a.n _ a.words.now a.marks.now _ c.requires.over c.requires.sized _ _ c.next_at-next.ensures c.rows_at-rows.ensures c.march-m.ensures _ _ _ _
     refl
     c.fill_words.ensures

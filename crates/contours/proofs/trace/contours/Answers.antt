@@ -5,17 +5,17 @@ use Rattle.contours.proofs.ContourLaws.{tabled_joins, tracing-none, again_joins,
 use Rattle.contours.proofs.trace.contours.Goals as goal
 
 pub chain_all-open-requires : goal.chain_all-open-requires
-chain_all-open-requires c =     let a = c.args in
+chain_all-open-requires c = let a = c.args in
     let t = c.tabulate-m.ensures in
-    let n = c.cells-n.result in record { over = c.requires.over; m_bound = t.few; each = tabled_joins a.g a.f.now a.level n _ _ _ t; tracing = tracing-none a.g a.f.now a.level n _ _ _ t _ (omega (arith, c.requires.nx_in_bounds, c.cells-n.ensures)); }
+    let n = c.cells-n.result in record { over = c.requires.over; m_bound = t.few; each = tabled_joins a.g a.f.now a.level n _ _ _ t; tracing = tracing-none a.g a.f.now a.level n _ _ _ t _ (omega (arith, c.requires.nx_in_bounds, c.cells-n.ensures)) }
 
 pub chain_all-requires : goal.chain_all-requires
-chain_all-requires c =     let a = c.args in
+chain_all-requires c = let a = c.args in
     let t = c.tabulate-m.ensures in
-    let u = c.chain_all-open.ensures in record { over = c.requires.over; m_bound = t.few; each = again_joins a.g a.f.now a.level c.cells-n.result _ _ _ t _ _ _ _ _ u; tracing = u.tracing; }
+    let u = c.chain_all-open.ensures in record { over = c.requires.over; m_bound = t.few; each = again_joins a.g a.f.now a.level c.cells-n.result _ _ _ t _ _ _ _ _ u; tracing = u.tracing }
 
 pub returns : goal.returns
-returns c =    let a = c.args in
+returns c = let a = c.args in
     let t = c.tabulate-m.ensures in
     let u = c.chain_all-open.ensures in
     let n = c.cells-n.ensures in

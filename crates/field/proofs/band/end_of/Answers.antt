@@ -14,7 +14,7 @@ pub returns-then-marks-k-eq1 : goal.returns-then-marks-k-eq1
 returns-then-marks-k-eq1 c = c.loop-end.invariant
 
 pub loop-end-preserved : goal.loop-end-preserved
-loop-end-preserved c =    let i = c.loop-end.invariant in
+loop-end-preserved c = let i = c.loop-end.invariant in
     (omega arith, unmarked_down _ _ _ (unmarked_part _ _ _ _ _ i.1 (omega arith) (omega arith)) (ne_eqb _ _ c.if-marks-k-eq1.false))
 
 pub returns : goal.returns

@@ -5,6 +5,6 @@ use borrow.Author.Rules.{rules}
 use Rattle.field.proofs.band.widen.Goals as goal
 
 pub returns : goal.returns
-returns c =    let first = c.least-less.ensures in
+returns c = let first = c.least-less.ensures in
     let second = c.least.ensures in
     widened_is _ _ _ _ _ (omega (arith, first)) second

@@ -16,7 +16,7 @@ returns-then-known c = contact-is _ _ _ _ _ _ _ c.samples_of-n.ensures (known-hi
 
 pub centre_hits-requires : goal.centre_hits-requires
 unfolding samples_of
-centre_hits-requires c =     let n = c.samples_of-n.ensures in record { over = c.requires.over; rims = subst (λ (n : ℕ). Rims c.args.s.grid c.args.s.r n c.args.rim.now) (sym n) c.requires.tables.rims; n_nonzero = omega (arith, n); }
+centre_hits-requires c = let n = c.samples_of-n.ensures in record { over = c.requires.over; rims = subst (λ (n : ℕ). Rims c.args.s.grid c.args.s.r n c.args.rim.now) (sym n) c.requires.tables.rims; n_nonzero = omega (arith, n) }
 
 pub returns : goal.returns
 unfolding contact_at

@@ -5,4 +5,4 @@ use borrow.Author.Rules.{rules}
 use Rattle.field.proofs.gauge.is_sampled.Goals as goal
 
 pub beyond-requires : goal.beyond-requires
-beyond-requires c =  let t = c.requires.gauged.far in record { limit_of = t.limit; strict_value = ap (λ (b : Threshold). b.strict) t.is; }
+beyond-requires c = let t = c.requires.gauged.far in record { limit_of = t.limit; strict_value = ap (λ (b : Threshold). b.strict) t.is }

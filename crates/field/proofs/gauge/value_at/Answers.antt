@@ -20,7 +20,7 @@ pub bounds-stock-j : goal.bounds-stock-j
 bounds-stock-j c = number-below c.args.g.setup.grid.nx _ _ _ _ c.requires.i_lt_nx.0 c.requires.i_lt_nx.1 c.requires.nx_in_bounds
 
 pub beyond-requires : goal.beyond-requires
-beyond-requires c =  let t = c.requires.gauged.far in record { limit_of = t.limit; strict_value = ap (λ (b : Threshold). b.strict) t.is; }
+beyond-requires c = let t = c.requires.gauged.far in record { limit_of = t.limit; strict_value = ap (λ (b : Threshold). b.strict) t.is }
 
 pub returns-then-beyond : goal.returns-then-beyond
 returns-then-beyond c = value-far _ c.requires.gauged _ _ _ _ _ c.beyond.ensures c.if-beyond.true

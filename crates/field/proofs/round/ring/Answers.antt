@@ -29,7 +29,7 @@ pub bounds-f-k : goal.bounds-f-k
 bounds-f-k c = omega (arith, long (goal.at.bounds-f-k c).At-loop-k, c.loop-k-test.true)
 
 pub loop-k-preserved : goal.loop-k-preserved
-loop-k-preserved c =    let l = c.loop-k in
+loop-k-preserved c = let l = c.loop-k in
     going_more _ _ _ _ _ _ _ l.invariant c.loop-k-test.true
     (elim c.if-allowed-k-eq1.branch [ then-allowed-k-eq1 w ↦ rw (w.f-is, eq-eqb _ _ w.if-allowed-k-eq1.true) refl | else-allowed-k-eq1 w ↦ rw (w.f-is, ne_eqb _ _ w.if-allowed-k-eq1.false) refl ])
 

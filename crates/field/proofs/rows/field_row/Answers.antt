@@ -31,9 +31,9 @@ pub overflow_add-i : goal.overflow_add-i
 overflow_add-i c = omega (arith, ends (goal.at.overflow_add-i c).In-loop-i, c.requires.sensing.over.sides.columns)
 
 pub field_run-n-requires : goal.field_run-n-requires
-field_run-n-requires c =     let w = swept (goal.at.field_run-n-requires c).At-loop-i in
+field_run-n-requires c = let w = swept (goal.at.field_run-n-requires c).At-loop-i in
     let e = c.least-next.ensures in
-    let t = c.loop-i-test.true in record { gauged = c.requires.gauged; sensing = subst (Sensing c.args.g.setup c.args.map.now c.args.allowed.now c.args.stock.now c.args.near.now c.args.rim.now) (sym w.long) c.requires.sensing; j_lt_ny = (c.requires.j_lt_ny.0, w.few); first_le_end = (omega (arith, e, t), omega (arith, e, t, c.least-end.ensures)); }
+    let t = c.loop-i-test.true in record { gauged = c.requires.gauged; sensing = subst (Sensing c.args.g.setup c.args.map.now c.args.allowed.now c.args.stock.now c.args.near.now c.args.rim.now) (sym w.long) c.requires.sensing; j_lt_ny = (c.requires.j_lt_ny.0, w.few); first_le_end = (omega (arith, e, t), omega (arith, e, t, c.least-end.ensures)) }
 
 pub loop-i-smaller : goal.loop-i-smaller
 loop-i-smaller c = omega (arith, c.loop-i-test.true, c.least-next.ensures)

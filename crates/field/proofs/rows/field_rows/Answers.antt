@@ -25,7 +25,7 @@ pub loop-j-init : goal.loop-j-init
 loop-j-init c = going_none _ _ _ _
 
 pub field_row-n-requires : goal.field_row-n-requires
-field_row-n-requires c =     let w = swept (goal.at.field_row-n-requires c).At-loop-j in record { gauged = c.requires.gauged; sensing = subst (Sensing c.args.g.setup c.args.map.now c.args.allowed.now c.args.stock.now c.args.near.now c.args.rim.now) (sym w.long) c.requires.sensing; j_lt_ny = (omega (arith, c.loop-j-test.true, c.least-end.ensures), w.few, c.requires.left_le_nx); }
+field_row-n-requires c = let w = swept (goal.at.field_row-n-requires c).At-loop-j in record { gauged = c.requires.gauged; sensing = subst (Sensing c.args.g.setup c.args.map.now c.args.allowed.now c.args.stock.now c.args.near.now c.args.rim.now) (sym w.long) c.requires.sensing; j_lt_ny = (omega (arith, c.loop-j-test.true, c.least-end.ensures), w.few, c.requires.left_le_nx) }
 
 pub loop-j-preserved : goal.loop-j-preserved
 loop-j-preserved c = going_more _ _ _ _ _ _ _ c.loop-j.invariant c.loop-j-test.true c.field_row-n.ensures

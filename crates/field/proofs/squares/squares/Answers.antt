@@ -54,9 +54,9 @@ pub slice_bounds-transform-end-2 : goal.slice_bounds-transform-end-2
 slice_bounds-transform-end-2 c = omega (arith, sized (goal.at.slice_bounds-transform-end-2 c).Start)
 
 pub transform-requires : goal.transform-requires
-transform-requires c = 
+transform-requires c =
     let r = squares-ask _ c.requires.sides _ _ _ _ _ c.requires.lo_lt_hi.0 c.requires.lo_lt_hi.1 c.requires.nx_in_bounds c.requires.nx_in_bounds_2 in
-    record { map_sides = r.0; nx_in_bounds = r.1.0; nx_in_bounds_2 = r.1.1; }
+    record { map_sides = r.0; nx_in_bounds = r.1.0; nx_in_bounds_2 = r.1.1 }
 
 pub returns : goal.returns
 returns c = squares-is _ c.requires.sides _ _ _ _ _ c.requires.lo_lt_hi.0 c.requires.lo_lt_hi.1 c.requires.nx_in_bounds c.requires.nx_in_bounds_2 _ c.transform.ensures.work_after

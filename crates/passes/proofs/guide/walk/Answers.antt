@@ -66,7 +66,7 @@ pub bounds-w-b-in-loop-i : goal.bounds-w-b-in-loop-i
 bounds-w-b-in-loop-i c = simp length-set (turn_in (goal.at.bounds-w-b-in-loop-i c).After-round_to-j).1
 
 pub loop-i-preserved : goal.loop-i-preserved
-loop-i-preserved c =    (walking_more _ _ _ _ _ _ c.requires _ _ c.loop-i.invariant.0 c.loop-i.invariant.1 c.loop-i-test.true _ c.round_to-j.ensures _ refl, omega (arith, c.loop-i-test.true))
+loop-i-preserved c = (walking_more _ _ _ _ _ _ c.requires _ _ c.loop-i.invariant.0 c.loop-i.invariant.1 c.loop-i-test.true _ c.round_to-j.ensures _ refl, omega (arith, c.loop-i-test.true))
 
 pub shape_of-w : goal.shape_of-w
 shape_of-w c = walking_long _ _ _ _ _ _ c.requires _ _ c.loop-i.invariant.0 c.loop-i.invariant.1

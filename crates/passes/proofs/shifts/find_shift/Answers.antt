@@ -28,17 +28,17 @@ pub enum_told-in_default-f : goal.enum_told-in_default-f
 enum_told-in_default-f c = c.in_default-f.keys2
 
 pub loop-tries-preserved : goal.loop-tries-preserved
-loop-tries-preserved c =    going_on _ _ _ _ _ _ _ c.loop-tries.invariant (omega arith) (look-on _ _ _ _ _ _ _ _ _ _ c.if-not-sh-most.false _ c.try_shift-t.ensures c.in_default-f.is)
+loop-tries-preserved c = going_on _ _ _ _ _ _ _ c.loop-tries.invariant (omega arith) (look-on _ _ _ _ _ _ _ _ _ _ c.if-not-sh-most.false _ c.try_shift-t.ensures c.in_default-f.is)
 
 pub returns-then-tries-ge8193 : goal.returns-then-tries-ge8193
-returns-then-tries-ge8193 c =    search_outward _ _ _ _ _ _ _ _ _ _ c.ease-eased.ensures c.in_default.is _
+returns-then-tries-ge8193 c = search_outward _ _ _ _ _ _ _ _ _ _ c.ease-eased.ensures c.in_default.is _
     (outward-on _ _ _ _ _ _ _ _ _ _ _ (going_end _ _ _ _ _ _ c.loop-tries.invariant c.if-tries-ge8193.true))
 
 pub returns-then-not-sh-most : goal.returns-then-not-sh-most
-returns-then-not-sh-most c =    search_outward _ _ _ _ _ _ _ _ _ _ c.ease-eased.ensures c.in_default.is _
+returns-then-not-sh-most c = search_outward _ _ _ _ _ _ _ _ _ _ c.ease-eased.ensures c.in_default.is _
     (outward-out _ _ _ _ _ _ _ _ _ _ (going_out _ _ _ _ _ _ _ c.loop-tries.invariant (omega arith) (look-far _ _ _ _ _ _ _ _ _ _ c.if-not-sh-most.true)))
 
 pub returns-in-At-f : goal.returns-in-At-f
-returns-in-At-f c =    search_outward _ _ _ _ _ _ _ _ _ _ c.ease-eased.ensures c.in_default.is _
+returns-in-At-f c = search_outward _ _ _ _ _ _ _ _ _ _ c.ease-eased.ensures c.in_default.is _
     (outward-out _ _ _ _ _ _ _ _ _ _ (going_out _ _ _ _ _ _ _ c.loop-tries.invariant (omega arith)
     (look-found _ _ _ _ _ _ _ _ _ _ c.if-not-sh-most.false _ c.try_shift-t.ensures _ _ _ c.in-At-f.is)))

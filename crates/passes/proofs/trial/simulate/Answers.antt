@@ -55,13 +55,13 @@ pub outer-init : goal.outer-init
 outer-init c = (going_none _ _ _ _, safe_start _ _ _ c.args.triples.now _ _ c.requires.usable.ready c.if-room-kept.false c.put_triple.ensures)
 
 pub leg_at-leg-requires : goal.leg_at-leg-requires
-leg_at-leg-requires c = record { le_k = c.outer.invariant.0.low; k_in_bounds = omega arith; }
+leg_at-leg-requires c = record { le_k = c.outer.invariant.0.low; k_in_bounds = omega arith }
 
 pub loop-k-init : goal.loop-k-init
 loop-k-init c = (going_none _ _ _ _, safe_again _ _ _ c.outer.invariant.1)
 
 pub find_shift-f-requires : goal.find_shift-f-requires
-find_shift-f-requires c =  let h = all-safe (goal.at.find_shift-f-requires c).At-loop-k in record { walls = c.requires.walls; tables = c.requires.tables; over = over-same _ _ _ h.cells-long c.requires.usable.over; tiled = tiled_fewer _ _ _ _ h.fewer c.requires.tiled; }
+find_shift-f-requires c = let h = all-safe (goal.at.find_shift-f-requires c).At-loop-k in record { walls = c.requires.walls; tables = c.requires.tables; over = over-same _ _ _ h.cells-long c.requires.usable.over; tiled = tiled_fewer _ _ _ _ h.fewer c.requires.tiled }
 
 pub enum_known-found : goal.enum_known-found
 enum_known-found c = c.in-At.keys1
@@ -73,7 +73,7 @@ pub overflow_add-kept : goal.overflow_add-kept
 overflow_add-kept c = omega (arith, (all-safe (goal.at.overflow_add-kept c).At-loop-k).room, out-same (goal.at.overflow_add-kept c).At-outer, c.well_formed)
 
 pub advance-t-requires : goal.advance-t-requires
-advance-t-requires c = record { tables = c.requires.tables; fit = fit_of_lem _ _ _ _ _ _ c.requires.usable (safe_spent _ _ _ _ (all-safe (goal.at.advance-t-requires c).At-loop-k)); points_in_bounds = room_then _ _ _ ((all-safe (goal.at.advance-t-requires c).At-loop-k).out-long ∙ out-same (goal.at.advance-t-requires c).At-outer) c.if-room-kept-2.false; }
+advance-t-requires c = record { tables = c.requires.tables; fit = fit_of_lem _ _ _ _ _ _ c.requires.usable (safe_spent _ _ _ _ (all-safe (goal.at.advance-t-requires c).At-loop-k)); points_in_bounds = room_then _ _ _ ((all-safe (goal.at.advance-t-requires c).At-loop-k).out-long ∙ out-same (goal.at.advance-t-requires c).At-outer) c.if-room-kept-2.false }
 
 pub overflow_step-k : goal.overflow_step-k
 overflow_step-k c = omega (arith, c.loop-k-test.true, c.leg_at-leg.type-inv)
@@ -82,12 +82,12 @@ pub loop-k-smaller : goal.loop-k-smaller
 loop-k-smaller c = omega (arith, c.loop-k-test.true)
 
 pub loop-k-preserved : goal.loop-k-preserved
-loop-k-preserved c =    (
-      going_on _ _ _ _ _ _ _ c.loop-k.invariant.0 c.loop-k-test.true
-          (turn_on _ _ _ _ _ _ _ c.max_shift-most.ensures _ _ c.sample-at.ensures c.find_shift-f.ensures _ _ _ c.in-At.is _ c.gap.ensures c.if-gap.false
-          (room_then _ _ _ ((all-safe (goal.at.loop-k-preserved c).At-loop-k).out-long ∙ out-same (goal.at.loop-k-preserved c).At-outer) c.if-room-kept-2.false) _ c.advance-t.ensures),
-      safe_on _ _ _ _ _ _ _ _ (safe_spent _ _ _ _ c.loop-k.invariant.1) (room_then _ _ _ (c.outer.invariant.1.out-long ∙ out-same (goal.at.loop-k-preserved c).At-outer) c.if-room-kept-2.false) c.advance-t.ensures,
-    )
+loop-k-preserved c = (
+  going_on _ _ _ _ _ _ _ c.loop-k.invariant.0 c.loop-k-test.true
+      (turn_on _ _ _ _ _ _ _ c.max_shift-most.ensures _ _ c.sample-at.ensures c.find_shift-f.ensures _ _ _ c.in-At.is _ c.gap.ensures c.if-gap.false
+      (room_then _ _ _ ((all-safe (goal.at.loop-k-preserved c).At-loop-k).out-long ∙ out-same (goal.at.loop-k-preserved c).At-outer) c.if-room-kept-2.false) _ c.advance-t.ensures),
+  safe_on _ _ _ _ _ _ _ _ (safe_spent _ _ _ _ c.loop-k.invariant.1) (room_then _ _ _ (c.outer.invariant.1.out-long ∙ out-same (goal.at.loop-k-preserved c).At-outer) c.if-room-kept-2.false) c.advance-t.ensures,
+)
 
 pub overflow_step-seg : goal.overflow_step-seg
 overflow_step-seg c = omega (arith, c.outer-test.true, c.well_formed)
@@ -96,7 +96,7 @@ pub outer-smaller : goal.outer-smaller
 outer-smaller c = omega (arith, c.outer-test.true)
 
 pub outer-preserved : goal.outer-preserved
-outer-preserved c =    (going_on _ _ _ _ _ _ _ c.outer.invariant.0 c.outer-test.true (leg_on _ _ _ _ _ _ c.outer.invariant.0.low c.outer-test.true _ _ _ c.leg_at-leg.ensures (going_end _ _ _ _ _ _ c.loop-k.invariant.0 c.loop-k-test.false)), all-safe (goal.at.outer-preserved c).At-loop-k)
+outer-preserved c = (going_on _ _ _ _ _ _ _ c.outer.invariant.0 c.outer-test.true (leg_on _ _ _ _ _ _ c.outer.invariant.0.low c.outer-test.true _ _ _ c.leg_at-leg.ensures (going_end _ _ _ _ _ _ c.loop-k.invariant.0 c.loop-k-test.false)), all-safe (goal.at.outer-preserved c).At-loop-k)
 
 pub shape_of-map-after-outer : goal.shape_of-map-after-outer
 shape_of-map-after-outer c = c.outer.invariant.1.cells-long
@@ -108,7 +108,7 @@ pub shape_of-triples-after-outer : goal.shape_of-triples-after-outer
 shape_of-triples-after-outer c = c.outer.invariant.1.out-long ∙ out-same (goal.at.shape_of-triples-after-outer c).At-outer
 
 pub returns-after-outer : goal.returns-after-outer
-returns-after-outer c =    pass_on _ _ _ _ _ (some (goal.at.returns-after-outer c).At-outer) _ _ _ _ c.vertex-first.ensures c.if-room-kept.false _ c.put_triple.ensures _ (going_end _ _ _ _ _ _ c.outer.invariant.0 c.outer-test.false)
+returns-after-outer c = pass_on _ _ _ _ _ (some (goal.at.returns-after-outer c).At-outer) _ _ _ _ c.vertex-first.ensures c.if-room-kept.false _ c.put_triple.ensures _ (going_end _ _ _ _ _ _ c.outer.invariant.0 c.outer-test.false)
 
 pub shape_of-map-in_default : goal.shape_of-map-in_default
 shape_of-map-in_default c = (all-safe (goal.at.shape_of-map-in_default c).At-loop-k).cells-long
@@ -144,5 +144,5 @@ pub shape_of-triples-then-room-kept-2 : goal.shape_of-triples-then-room-kept-2
 shape_of-triples-then-room-kept-2 c = (all-safe (goal.at.shape_of-triples-then-room-kept-2 c).At-loop-k).out-long ∙ out-same (goal.at.shape_of-triples-then-room-kept-2 c).At-outer
 
 pub returns-then-room-kept-2 : goal.returns-then-room-kept-2
-returns-then-room-kept-2 c =    leaves (goal.at.returns-then-room-kept-2 c).In-loop-k _ (turn-full _ _ _ _ _ _ _ c.max_shift-most.ensures _ _ c.sample-at.ensures c.find_shift-f.ensures _ _ _ c.in-At.is _ c.gap.ensures c.if-gap.false
+returns-then-room-kept-2 c = leaves (goal.at.returns-then-room-kept-2 c).In-loop-k _ (turn-full _ _ _ _ _ _ _ c.max_shift-most.ensures _ _ c.sample-at.ensures c.find_shift-f.ensures _ _ _ c.in-At.is _ c.gap.ensures c.if-gap.false
     (full_then _ _ _ ((all-safe (goal.at.returns-then-room-kept-2 c).At-loop-k).out-long ∙ out-same (goal.at.returns-then-room-kept-2 c).At-outer) c.if-room-kept-2.true))
