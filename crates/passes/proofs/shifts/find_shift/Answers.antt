@@ -6,29 +6,19 @@ use Rattle.loops.proofs.LoopLaws.{Going, going_none, going_on, going_out, going_
 use Rattle.setup.specs.Place.{allowed_at}
 use Rattle.passes.specs.Shifts.{sk, look}
 use Rattle.passes.proofs.ShiftLaws.{search_eased, search_outward, look-far, look-found, look-on, outward-out, outward-on}
+use mathlib.Core.Path.{ap}
+use mathlib.Core.Bool.{not}
 use borrow.Author.Rules.{rules}
 use Rattle.passes.proofs.shifts.find_shift.Goals as goal
-
-pub enum_known-back : goal.enum_known-back
-enum_known-back c = c.in-At.keys1
 
 pub returns-in-At : goal.returns-in-At
 returns-in-At c = search_eased _ _ _ _ _ _ _ _ _ _ c.ease-eased.ensures _ _ _ c.in-At.is
 
-pub enum_told-1 : goal.enum_told-1
-enum_told-1 c = c.in_default.keys2
-
 pub loop-tries-init : goal.loop-tries-init
 loop-tries-init c = going_none _ _ _ _
 
-pub enum_known-f : goal.enum_known-f
-enum_known-f c = c.in-At-f.keys1
-
-pub enum_told-in_default-f : goal.enum_told-in_default-f
-enum_told-in_default-f c = c.in_default-f.keys2
-
 pub loop-tries-preserved : goal.loop-tries-preserved
-loop-tries-preserved c = going_on _ _ _ _ _ _ _ c.loop-tries.invariant (omega arith) (look-on _ _ _ _ _ _ _ _ _ _ c.if-not-sh-most.false _ c.try_shift-t.ensures c.in_default-f.is)
+loop-tries-preserved c = going_on _ _ _ _ _ _ _ c.loop-tries.invariant (omega arith) (look-on _ _ _ _ _ _ _ _ _ _ (ap not c.if-not-sh-most.false) _ c.try_shift-t.ensures c.in_default-f.is)
 
 pub returns-then-tries-ge8193 : goal.returns-then-tries-ge8193
 returns-then-tries-ge8193 c = search_outward _ _ _ _ _ _ _ _ _ _ c.ease-eased.ensures c.in_default.is _
@@ -36,9 +26,9 @@ returns-then-tries-ge8193 c = search_outward _ _ _ _ _ _ _ _ _ _ c.ease-eased.en
 
 pub returns-then-not-sh-most : goal.returns-then-not-sh-most
 returns-then-not-sh-most c = search_outward _ _ _ _ _ _ _ _ _ _ c.ease-eased.ensures c.in_default.is _
-    (outward-out _ _ _ _ _ _ _ _ _ _ (going_out _ _ _ _ _ _ _ c.loop-tries.invariant (omega arith) (look-far _ _ _ _ _ _ _ _ _ _ c.if-not-sh-most.true)))
+    (outward-out _ _ _ _ _ _ _ _ _ _ (going_out _ _ _ _ _ _ _ c.loop-tries.invariant (omega arith) (look-far _ _ _ _ _ _ _ _ _ _ (ap not c.if-not-sh-most.true))))
 
 pub returns-in-At-f : goal.returns-in-At-f
 returns-in-At-f c = search_outward _ _ _ _ _ _ _ _ _ _ c.ease-eased.ensures c.in_default.is _
     (outward-out _ _ _ _ _ _ _ _ _ _ (going_out _ _ _ _ _ _ _ c.loop-tries.invariant (omega arith)
-    (look-found _ _ _ _ _ _ _ _ _ _ c.if-not-sh-most.false _ c.try_shift-t.ensures _ _ _ c.in-At-f.is)))
+    (look-found _ _ _ _ _ _ _ _ _ _ (ap not c.if-not-sh-most.false) _ c.try_shift-t.ensures _ _ _ c.in-At-f.is)))

@@ -5,6 +5,10 @@ use Prim.Native.Nat.{◌-◌, ◌/◌, ◌≤◌}
 use native.Mathlib.Omega.{arith}
 use borrow.Author.Rules.{rules}
 use lib.ListN.{length}
+use Prim.Native.Nat.{ℕ}
+use mathlib.Core.List.{List}
+use lib.Ieee.{Float}
+use Rattle.geom.specs.declared.vec2.Vec2.{Vec2}
 use Rattle.loops.specs.Loop.{Run, on, turn}
 use Rattle.loops.proofs.LoopLaws.{Going, going_none, going_on, going_out, going_end}
 use Rattle.geom.specs.Vec.{f0}
@@ -18,24 +22,21 @@ use borrow.Author.Rules.{rules}
 use Rattle.passes.proofs.trial.simulate.Goals as goal
 use Rattle.passes.proofs.trial.simulate.Goals.{At-loop-k, At-outer, In-loop-k}
 
--- the pass where the loop over the legs begins, at its head, and at the head of the loop over the samples
-abbrev start : tie.At-outer invariant-loop decreases-loop invariant-outer decreases-outer → Pass
-start h = ps h.before.before.before.before.before.before.before.before.before.before.before.before.before.before.before.before.before.before.args.map.now h.before.before.before.before.before.before.before.before.before.before.before.before.before.before.before.before.before.before.args.log.now h.before.before.before.before.before.put-triple.new.0 (tr false 1 0 0 h.before.before.before.before.before.before.before.before.vertex.result f0)
+-- the pass where the loop over the legs begins
+abbrev start : List ℕ → List ℕ → List Float → Vec2 → Pass
+start map log out first = ps map log out (tr false 1 0 0 first f0)
 
-abbrev here : tie.At-loop invariant-loop decreases-loop invariant-outer decreases-outer → Pass
-here k = ps k.loop.map k.loop.log k.loop.triples k.loop.t
-
-out-same : (h : At-outer) → length (start h).out ≡ length h.args.triples.now
+out-same : (h : At-outer) → length (start h.args.map.now h.args.log.now h.put_triple.new.triples h.vertex-first.result).out ≡ length h.args.triples.now
 out-same h = ap length h.put_triple.ensures ∙ long-put h.args.kept (triple_at h.vertex-first.result f0) h.args.triples.now
 
 some : (h : At-outer) → 1 ≤ length h.args.guide.now / 2
 some h = half-some _ h.requires.usable.point
 
-all-safe : (k : At-loop-k) → Safe k.args.kept (start k.before.before.before.before) (here k)
+all-safe : (k : At-loop-k) → Safe k.args.kept (start k.args.map.now k.args.log.now k.put_triple.new.triples k.vertex-first.result) (ps k.loop-k.map k.loop-k.log k.loop-k.triples k.loop-k.t)
 all-safe k = safe_then _ _ _ _ k.outer.invariant.1 k.loop-k.invariant.1
 
 -- a turn over the samples that is left leaves the whole pass: both loops
-leaves : (c : In-loop-k) (u : Pass) → sample_step c.args.s (allowed_at c.args.s c.args.wall.now c.args.vs.now c.args.lens.now) c.args.kept c.leg_at-leg.result c.loop-k.k (here c.before) ≡ Run.out u
+leaves : (c : In-loop-k) (u : Pass) → sample_step c.args.s (allowed_at c.args.s c.args.wall.now c.args.vs.now c.args.lens.now) c.args.kept c.leg_at-leg.result c.loop-k.k (ps c.loop-k.map c.loop-k.log c.loop-k.triples c.loop-k.t) ≡ Run.out u
     → u ≡ simulate_of c.args.s (allowed_at c.args.s c.args.wall.now c.args.vs.now c.args.lens.now) (points 0 (length c.args.guide.now / 2) c.args.guide.now) c.args.kept c.args.map.now c.args.log.now c.args.triples.now
 leaves c u e =
     pass-out _ _ _ _ _ ((let told : 1 ≤ length c.args.guide.now / 2 = half-some _ c.requires.usable.point in told)) _ _ _ _ c.vertex-first.ensures c.if-room-kept.false _ c.put_triple.ensures _
@@ -62,12 +63,6 @@ loop-k-init c = (going_none _ _ _ _, safe_again _ _ _ c.outer.invariant.1)
 
 pub find_shift-f-requires : goal.find_shift-f-requires
 find_shift-f-requires c = let h = all-safe (goal.at.find_shift-f-requires c).At-loop-k in record { walls = c.requires.walls; tables = c.requires.tables; over = over-same _ _ _ h.cells-long c.requires.usable.over; tiled = tiled_fewer _ _ _ _ h.fewer c.requires.tiled }
-
-pub enum_known-found : goal.enum_known-found
-enum_known-found c = c.in-At.keys1
-
-pub enum_told-1 : goal.enum_told-1
-enum_told-1 c = c.in_default.keys2
 
 pub overflow_add-kept : goal.overflow_add-kept
 overflow_add-kept c = omega (arith, (all-safe (goal.at.overflow_add-kept c).At-loop-k).room, out-same (goal.at.overflow_add-kept c).At-outer, c.well_formed)
