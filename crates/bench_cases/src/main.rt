@@ -3,11 +3,12 @@
 // has the answers as worked out by hand, so a wrong one fails the check.
 #![tactic(auto)]
 
-ghost use Rattle.std.specs.Prelude.{◌≡◌};
+ghost use Rattle.std.specs.Prelude.{◌≡◌, IfOk, OnOk};
 ghost use Rattle.bench_lines.specs.Obey.{Fit, no_map};
 
 use bench_talk::Talk;
-use libc::{STDIN_FILENO, STDOUT_FILENO};
+use std::io;
+use std::io::Read;
 
 #[derive(Clone, Copy)]
 struct Cases {
@@ -24,105 +25,121 @@ struct Part {
 }
 
 // What is left of a case is a line where it has begun.
-fn finish(c: Cases, map: &mut [u8], log: &mut [u32])
+fn finish(rt: &impl Print, c: Cases, map: &mut [u8], log: &mut [u32]) -> io::Result<()>
     requires { Fit c.talk.bench map.old log.old }
-    ensures { Fit no_map map.new log.new }
+    ensures { OnOk result (Fit no_map map.new log.new) }
 {
     let t = c.talk;
     if c.begun {
-        bench_talk::finish(t, map, log);
+        bench_talk::finish(rt, t, map, log)?;
     }
+    Ok(())
 }
 
 // A new bench.
-fn next(c: Cases, map: &mut [u8], log: &mut [u32]) -> Cases
+fn next(rt: &impl Print, c: Cases, map: &mut [u8], log: &mut [u32]) -> io::Result<Cases>
     requires { Fit c.talk.bench map.old log.old }
-    ensures { Fit result.talk.bench map.new log.new }
+    ensures { IfOk result (λ r. Fit r.talk.bench map.new log.new) }
 {
-    finish(c, map, log);
-    io::write_all(STDOUT_FILENO, b"-- ");
-    Cases {
+    finish(rt, c, map, log)?;
+    print!(rt; "-- ")?;
+    Ok(Cases {
         talk: bench_talk::start(),
         begun: true,
         naming: true,
-    }
+    })
 }
 
 // A byte of a name.
-fn name(c: Cases, b: u8) -> Cases
-    ensures { result.talk ≡ c.talk }
+fn name(rt: &impl Print, c: Cases, b: u8) -> io::Result<Cases>
+    ensures { IfOk result (λ r. r.talk ≡ c.talk) }
 {
     let one = [b];
-    io::write_all(STDOUT_FILENO, &one);
+    rt.write_all(&one)?;
     let t = c.talk;
-    Cases {
+    Ok(Cases {
         talk: t,
         begun: c.begun,
         naming: b != b'\n',
-    }
+    })
 }
 
-fn byte(c: Cases, b: u8, map: &mut [u8], log: &mut [u32]) -> Cases
+fn byte(rt: &impl Print, c: Cases, b: u8, map: &mut [u8], log: &mut [u32]) -> io::Result<Cases>
     requires { Fit c.talk.bench map.old log.old }
-    ensures { Fit result.talk.bench map.new log.new }
+    ensures { IfOk result (λ r. Fit r.talk.bench map.new log.new) }
 {
     if b == 30 {
-        return next(c, map, log);
+        return next(rt, c, map, log);
     }
     if c.naming {
-        return name(c, b);
+        return name(rt, c, b);
     }
     let t = c.talk;
-    Cases {
-        talk: bench_talk::byte(t, b, map, log),
+    Ok(Cases {
+        talk: bench_talk::byte(rt, t, b, map, log)?,
         begun: c.begun,
         naming: false,
-    }
+    })
 }
 
-fn bytes(read: &[u8], start: Cases, map: &mut [u8], log: &mut [u32]) -> Cases
+fn bytes(
+    rt: &impl Print,
+    read: &[u8],
+    start: Cases,
+    map: &mut [u8],
+    log: &mut [u32],
+) -> io::Result<Cases>
     requires { Fit start.talk.bench map.old log.old }
-    ensures { Fit result.talk.bench map.new log.new }
+    ensures { IfOk result (λ r. Fit r.talk.bench map.new log.new) }
 {
     let mut c = start;
-    for i in 0..read.len() {
-        c = byte(c, read[i], map, log);
+    for b in read {
+        c = byte(rt, c, *b, map, log)?;
     }
-    c
+    Ok(c)
 }
 
-fn some(c: Cases, map: &mut [u8], log: &mut [u32]) -> Part
+fn some(
+    rt: &impl Print,
+    input: &mut impl Read,
+    c: Cases,
+    map: &mut [u8],
+    log: &mut [u32],
+) -> io::Result<Part>
     requires { Fit c.talk.bench map.old log.old }
-    ensures { Fit result.cases.talk.bench map.new log.new }
+    ensures { IfOk result (λ r. Fit r.cases.talk.bench map.new log.new) }
 {
-    let mut read = io::buffer();
-    let got = libc::read(STDIN_FILENO, &mut read);
-    let n = io::count(got, &read);
-    Part {
-        cases: bytes(&read[..n], c, map, log),
+    let mut read = [0u8; 4096];
+    let n = input.read(&mut read)?;
+    Ok(Part {
+        cases: bytes(rt, &read[..n], c, map, log)?,
         more: 0 < n,
-    }
+    })
 }
 
-// The turns are counted down, since nothing says that the input ends.
-fn listen(start: Cases, map: &mut [u8], log: &mut [u32]) -> Cases
+// The turns are counted, since nothing says that the input ends.
+fn listen(
+    rt: &(impl Input + Print),
+    start: Cases,
+    map: &mut [u8],
+    log: &mut [u32],
+) -> io::Result<Cases>
     requires { Fit start.talk.bench map.old log.old }
-    ensures { Fit result.talk.bench map.new log.new }
+    ensures { IfOk result (λ r. Fit r.talk.bench map.new log.new) }
 {
+    let mut input = rt.reader();
     let mut c = start;
-    let mut turns = u64::MAX;
-    while turns > 0 {
-        let part = some(c, map, log);
+    for _ in 0..u64::MAX {
+        let part = some(rt, &mut input, c, map, log)?;
         c = part.cases;
         if !part.more {
-            return c;
+            break;
         }
-        turns -= 1;
     }
-    c
+    Ok(c)
 }
 
-fn main() {
+fn main(rt: HostRuntime) -> io::Result<()> {
     let mut map = [0u8; 4096];
     let mut log = [0u32; 4096];
     let start = Cases {
@@ -130,6 +147,6 @@ fn main() {
         begun: false,
         naming: false,
     };
-    let c = listen(start, &mut map, &mut log);
-    finish(c, &mut map, &mut log);
+    let c = listen(&rt, start, &mut map, &mut log)?;
+    finish(&rt, c, &mut map, &mut log)
 }

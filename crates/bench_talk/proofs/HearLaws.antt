@@ -12,7 +12,7 @@ use Rattle.bench_lines.specs.declared.obey.Bench.{Bench}
 use Rattle.bench_lines.specs.declared.obey.Done.{Done}
 use Rattle.bench_lines.proofs.CondLaws.{if_so, if_not}
 use Rattle.bench_lines.proofs.MeaningLaws.{meaning_is}
-use Rattle.bench_talk.specs.Hears.{Hears}
+use Rattle.bench_talk.specs.Hears.{Hears, Left, answer_to}
 use Rattle.bench_talk.specs.declared.Talk.{Talk}
 
 abbrev pub talk : Bench → Words → Bool → ℕ → Bool → Talk
@@ -49,6 +49,10 @@ module _ (t : Talk) (m l : List ℕ) (h : Heard) (H : Hears t m l h) where
           ended = E ∙ ap (λ (x : Out). is_wrong x.done.answer) p;
         }
 
+    pub answer_heard : d.answer ≡ answer_to h
+    unfolding answer_to
+    answer_heard = ap (λ (x : Out). x.done.answer) (o ∙ obeyed-so)
+
   -- after a bad line nothing is heard
   pub hears_ended : (c : ℕ) → t.ended ≡ true → Hears t m l (byte_heard c h)
   unfolding byte_heard
@@ -58,9 +62,10 @@ module _ (t : Talk) (m l : List ℕ) (h : Heard) (H : Hears t m l h) where
     on : h.ended ≡ false
     on = sym H.ended ∙ e
 
-    pub hears_feed : (c : ℕ) (r : Talk) (m' l' : List ℕ) → c ≡ 10 → Hears r m' l' (line_heard h) → Hears r m' l' (byte_heard c h)
+    -- what holds after the line holds after its line feed
+    pub hears_feed : (P : Heard → Type 0) (c : ℕ) → c ≡ 10 → P (line_heard h) → P (byte_heard c h)
     unfolding byte_heard
-    hears_feed c r m' l' C R = subst (Hears r m' l') (if_so (eqb c 10) (line_heard h) _ (eq-eqb c 10 C) ∙ if_not h.ended h _ on) R
+    hears_feed P c C R = subst P (if_so (eqb c 10) (line_heard h) _ (eq-eqb c 10 C) ∙ if_not h.ended h _ on) R
 
     pub hears_byte : (c : ℕ) (w : Words) → (c ≡ 10 → ⊥) → w ≡ step_of c t.words → Hears (talk t.bench w true t.number false) m l (byte_heard c h)
     unfolding byte_heard words_of
@@ -76,9 +81,10 @@ module _ (t : Talk) (m l : List ℕ) (h : Heard) (H : Hears t m l h) where
           ended = sym on;
         })
 
-    pub hears_rest : (r : Talk) (m' l' : List ℕ) → t.begun ≡ true → Hears r m' l' (line_heard h) → Hears r m' l' (end_heard h)
+    -- what holds after the line holds after the end of the input, where it has begun
+    pub hears_rest : (P : Heard → Type 0) → t.begun ≡ true → P (line_heard h) → P (end_heard h)
     unfolding end_heard
-    hears_rest r m' l' b R = subst (Hears r m' l') (if_so (begun_of h.line) (line_heard h) h (sym H.begun ∙ b) ∙ if_not h.ended h _ on) R
+    hears_rest P b R = subst P (if_so (begun_of h.line) (line_heard h) h (sym H.begun ∙ b) ∙ if_not h.ended h _ on) R
 
     pub hears_no_rest : t.begun ≡ false → Hears t m l (end_heard h)
     unfolding end_heard
@@ -87,3 +93,7 @@ module _ (t : Talk) (m l : List ℕ) (h : Heard) (H : Hears t m l h) where
   pub hears_end : t.ended ≡ true → Hears t m l (end_heard h)
   unfolding end_heard
   hears_end e = subst (Hears t m l) (if_so h.ended h _ (sym H.ended ∙ e)) H
+
+-- the map and the log of a talk
+pub left_by : (t : Talk) (m l : List ℕ) (h : Heard) → Hears t m l h → Left m l h
+left_by t m l h H = record { cells = H.cells; log = H.log }

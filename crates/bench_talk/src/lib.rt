@@ -1,15 +1,15 @@
 // The bench's answers on standard output, for the bytes of its input as they come.
 #![tactic(auto)]
 
-ghost use Rattle.std.specs.Prelude.{◌≡◌, ℕ, List};
+ghost use Rattle.std.specs.Prelude.{◌≡◌, ℕ, List, IfOk, OnErr};
 ghost use Rattle.bench_lines.specs.Obey.{Fit, no_map};
 ghost use Rattle.bench_lines.specs.Reader.{Heard, silent, is_wrong, line_heard, byte_heard, heard_of, end_heard};
-ghost use Rattle.bench_talk.specs.Hears.{Hears};
+ghost use Rattle.bench_talk.specs.Hears.{Hears, Left, LeftWithin, answer_to};
 
 use bench_lines::obey::{Answer, Bench};
 use bench_lines::reader::line_end;
 use bench_lines::words::{Words, begin, step};
-use libc::STDOUT_FILENO;
+use std::io;
 
 #[derive(Clone, Copy)]
 pub struct Talk {
@@ -36,33 +36,13 @@ pub fn start() -> Talk
     }
 }
 
-// A blank, a number.
-fn number(n: u64) {
-    io::write_all(STDOUT_FILENO, b" ");
-    io::print_decimal(STDOUT_FILENO, n);
-}
-
-fn say(a: Answer, line: u64) {
+fn say(rt: &impl Print, a: Answer, line: u64) -> io::Result<()> {
     match a {
-        Answer::Started(standing) => {
-            io::write_all(STDOUT_FILENO, b"map");
-            number(standing as u64);
-        }
-        Answer::Removed(removed, standing) => {
-            io::write_all(STDOUT_FILENO, b"pass");
-            number(removed as u64);
-            number(standing as u64);
-        }
-        Answer::Restored(standing) => {
-            io::write_all(STDOUT_FILENO, b"undo");
-            number(standing as u64);
-        }
-        Answer::Wrong => {
-            io::write_all(STDOUT_FILENO, b"bad");
-            number(line);
-        }
+        Answer::Started(standing) => println!(rt; "map {standing}"),
+        Answer::Removed(removed, standing) => println!(rt; "pass {removed} {standing}"),
+        Answer::Restored(standing) => println!(rt; "undo {standing}"),
+        Answer::Wrong => println!(rt; "bad {line}"),
     }
-    io::write_all(STDOUT_FILENO, b"\n");
 }
 
 fn is_wrong(a: Answer) -> bool
@@ -76,72 +56,104 @@ fn is_wrong(a: Answer) -> bool
     }
 }
 
+// What a line comes to: the talk after it, and the answer that is to be written.
+#[derive(Clone, Copy)]
+struct Turn {
+    talk: Talk,
+    answer: Answer,
+}
+
 // The line ends here.
-fn line(t: Talk, map: &mut [u8], log: &mut [u32]) -> Talk
+fn line(t: Talk, map: &mut [u8], log: &mut [u32]) -> Turn
     requires { Fit t.bench map.old log.old }
-    ensures fit { Fit result.bench map.new log.new }
-    ensures hears { (h : Heard) → Hears t map.old log.old h → Hears result map.new log.new (line_heard h) }
+    ensures fit { Fit result.talk.bench map.new log.new }
+    ensures hears { (h : Heard) → Hears t map.old log.old h → Hears result.talk map.new log.new (line_heard h) }
+    ensures answer { (h : Heard) → Hears t map.old log.old h → result.answer ≡ answer_to h }
 {
     let b = t.bench;
     let w = t.words;
     let d = line_end(b, w, map, log);
     let after = d.bench;
     let answer = d.answer;
-    say(answer, t.number);
-    Talk {
-        bench: after,
-        words: begin(),
-        begun: false,
-        number: std::num::wrapping_add_u64(t.number, 1),
-        ended: is_wrong(answer),
+    Turn {
+        talk: Talk {
+            bench: after,
+            words: begin(),
+            begun: false,
+            number: std::num::wrapping_add_u64(t.number, 1),
+            ended: is_wrong(answer),
+        },
+        answer,
     }
 }
 
-// One byte more. After a bad line nothing is said.
-pub fn byte(t: Talk, c: u8, map: &mut [u8], log: &mut [u32]) -> Talk
+// The line ends here, and its answer is written.
+fn answered(rt: &impl Print, t: Talk, map: &mut [u8], log: &mut [u32]) -> io::Result<Talk>
     requires { Fit t.bench map.old log.old }
-    ensures fit { Fit result.bench map.new log.new }
-    ensures hears { (h : Heard) → Hears t map.old log.old h → Hears result map.new log.new (byte_heard c h) }
+    ensures fit { IfOk result (λ r. Fit r.bench map.new log.new) }
+    ensures hears { (h : Heard) → Hears t map.old log.old h → IfOk result (λ r. Hears r map.new log.new (line_heard h)) }
+    ensures left { (h : Heard) → Hears t map.old log.old h → OnErr result (Left map.new log.new (line_heard h)) }
+{
+    let turn = line(t, map, log);
+    say(rt, turn.answer, t.number)?;
+    Ok(turn.talk)
+}
+
+// One byte more. After a bad line nothing is said. Where an answer cannot be written, the byte has been heard.
+pub fn byte(rt: &impl Print, t: Talk, c: u8, map: &mut [u8], log: &mut [u32]) -> io::Result<Talk>
+    requires { Fit t.bench map.old log.old }
+    ensures fit { IfOk result (λ r. Fit r.bench map.new log.new) }
+    ensures hears { (h : Heard) → Hears t map.old log.old h → IfOk result (λ r. Hears r map.new log.new (byte_heard c h)) }
+    ensures left { (h : Heard) → Hears t map.old log.old h → OnErr result (Left map.new log.new (byte_heard c h)) }
 {
     if t.ended {
-        return t;
+        return Ok(t);
     }
     if c == b'\n' {
-        return line(t, map, log);
+        return answered(rt, t, map, log);
     }
     let b = t.bench;
     let w = t.words;
-    Talk {
+    Ok(Talk {
         bench: b,
         words: step(w, c),
         begun: true,
         number: t.number,
         ended: false,
-    }
+    })
 }
 
-pub fn bytes(read: &[u8], start: Talk, map: &mut [u8], log: &mut [u32]) -> Talk
+// Where an answer cannot be written, the bytes up to it have been heard.
+pub fn bytes(
+    rt: &impl Print,
+    read: &[u8],
+    start: Talk,
+    map: &mut [u8],
+    log: &mut [u32],
+) -> io::Result<Talk>
     requires { Fit start.bench map.old log.old }
-    ensures fit { Fit result.bench map.new log.new }
-    ensures hears { (h : Heard) → Hears start map.old log.old h → Hears result map.new log.new (heard_of read.now h) }
+    ensures fit { IfOk result (λ r. Fit r.bench map.new log.new) }
+    ensures hears { (h : Heard) → Hears start map.old log.old h → IfOk result (λ r. Hears r map.new log.new (heard_of read.now h)) }
+    ensures left { (h : Heard) → Hears start map.old log.old h → OnErr result (LeftWithin read.now map.new log.new h) }
 {
     let mut t = start;
     for i in 0..read.len() {
-        t = byte(t, read[i], map, log);
+        t = byte(rt, t, read[i], map, log)?;
     }
-    t
+    Ok(t)
 }
 
 // The input ends here: what is left is a line where it has begun.
-pub fn finish(t: Talk, map: &mut [u8], log: &mut [u32]) -> Talk
+pub fn finish(rt: &impl Print, t: Talk, map: &mut [u8], log: &mut [u32]) -> io::Result<Talk>
     requires { Fit t.bench map.old log.old }
-    ensures { (h : Heard) → Hears t map.old log.old h → Hears result map.new log.new (end_heard h) }
+    ensures hears { (h : Heard) → Hears t map.old log.old h → IfOk result (λ r. Hears r map.new log.new (end_heard h)) }
+    ensures left { (h : Heard) → Hears t map.old log.old h → OnErr result (Left map.new log.new (end_heard h)) }
 {
     if t.ended {
-        return t;
+        return Ok(t);
     }
     if t.begun {
-        return line(t, map, log);
+        return answered(rt, t, map, log);
     }
-    t
+    Ok(t)
 }

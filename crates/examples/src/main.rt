@@ -6,10 +6,10 @@ ghost use Rattle.std.specs.Prelude.{◌≡◌};
 ghost use Rattle.examples.specs.Examples.{answer_to, chunks_of, guard_half};
 
 use entry::params::{AdaptiveParams, Setting, cell_of};
-use libc::STDOUT_FILENO;
 use planner::outcome::{Answer, adaptive_clear};
 use report::report::AdaptiveReport;
 use setup::limits::guard_of;
+use std::io;
 use std::num::wrapping_add_u64;
 
 // A job like any other, but for what an example is about.
@@ -60,21 +60,12 @@ fn answer(p: AdaptiveParams) -> Answer
     )
 }
 
-fn say(what: &[u8]) {
-    io::write_all(STDOUT_FILENO, what);
-}
-
-fn say_number(n: u64) {
-    io::print_decimal(STDOUT_FILENO, n);
-}
-
 // The number of a refusal, or that there is none.
-fn say_answer(a: Answer) {
+fn say_answer(rt: &impl Print, a: Answer) -> io::Result<()> {
     match a {
-        Answer::Refused(n) => say_number(n as u64),
-        Answer::Accepted(_) => say(b"accepted"),
+        Answer::Refused(n) => println!(rt; "{n}"),
+        Answer::Accepted(_) => println!(rt; "accepted"),
     }
-    say(b"\n");
 }
 
 fn chunks(r: AdaptiveReport) -> u64
@@ -85,32 +76,30 @@ fn chunks(r: AdaptiveReport) -> u64
     wrapping_add_u64(ways, cuts)
 }
 
-fn say_chunks(a: Answer) {
+fn say_chunks(rt: &impl Print, a: Answer) -> io::Result<()> {
     match a {
-        Answer::Refused(n) => say_number(n as u64),
+        Answer::Refused(n) => println!(rt; "{n}"),
         Answer::Accepted(r) => {
-            say(b"accepted, ");
-            say_number(chunks(r));
-            say(b" chunks");
+            let count = chunks(r);
+            println!(rt; "accepted, {count} chunks")
         }
     }
-    say(b"\n");
 }
 
-fn engagements() {
-    say(b"engagement 1: ");
-    say_answer(answer(params(6.0, 1.0, -6.0, Setting::Absent)));
-    say(b"engagement 0.999: ");
-    say_answer(answer(params(6.0, 0.999, -6.0, Setting::Absent)));
-    say(b"engagement 180: ");
-    say_answer(answer(params(6.0, 180.0, -6.0, Setting::Absent)));
+fn engagements(rt: &impl Print) -> io::Result<()> {
+    print!(rt; "engagement 1: ")?;
+    say_answer(rt, answer(params(6.0, 1.0, -6.0, Setting::Absent)))?;
+    print!(rt; "engagement 0.999: ")?;
+    say_answer(rt, answer(params(6.0, 0.999, -6.0, Setting::Absent)))?;
+    print!(rt; "engagement 180: ")?;
+    say_answer(rt, answer(params(6.0, 180.0, -6.0, Setting::Absent)))
 }
 
-fn resolutions() {
-    say(b"diameter 6, resolution 0.1: ");
-    say_answer(answer(params(6.0, 40.0, -6.0, Setting::Given(0.1))));
-    say(b"diameter 6, resolution 0.11: ");
-    say_answer(answer(params(6.0, 40.0, -6.0, Setting::Given(0.11))));
+fn resolutions(rt: &impl Print) -> io::Result<()> {
+    print!(rt; "diameter 6, resolution 0.1: ")?;
+    say_answer(rt, answer(params(6.0, 40.0, -6.0, Setting::Given(0.1))))?;
+    print!(rt; "diameter 6, resolution 0.11: ")?;
+    say_answer(rt, answer(params(6.0, 40.0, -6.0, Setting::Given(0.11))))
 }
 
 // Whether the guard is half the limit.
@@ -121,21 +110,21 @@ fn guard_halves(p: AdaptiveParams) -> bool
     guard_of(limit, cell_of(p), p.tool_diameter * 0.5) == limit * 0.5
 }
 
-fn say_guard(p: AdaptiveParams) {
+fn say_guard(rt: &impl Print, p: AdaptiveParams) -> io::Result<()> {
     if guard_halves(p) {
-        say(b"guard is half the limit\n");
+        println!(rt; "guard is half the limit")
     } else {
-        say(b"guard is not half the limit\n");
+        println!(rt; "guard is not half the limit")
     }
 }
 
-fn main() {
-    engagements();
-    resolutions();
-    say(b"diameter 0, bottom above top: ");
-    say_answer(answer(params(0.0, 40.0, 1.0, Setting::Absent)));
-    say(b"three equal vertices: ");
-    say_chunks(answer(params(6.0, 40.0, -6.0, Setting::Absent)));
-    say(b"engagement 1, default cell: ");
-    say_guard(params(6.0, 1.0, -6.0, Setting::Absent));
+fn main(rt: HostRuntime) -> io::Result<()> {
+    engagements(&rt)?;
+    resolutions(&rt)?;
+    print!(rt; "diameter 0, bottom above top: ")?;
+    say_answer(&rt, answer(params(0.0, 40.0, 1.0, Setting::Absent)))?;
+    print!(rt; "three equal vertices: ")?;
+    say_chunks(&rt, answer(params(6.0, 40.0, -6.0, Setting::Absent)))?;
+    print!(rt; "engagement 1, default cell: ")?;
+    say_guard(&rt, params(6.0, 1.0, -6.0, Setting::Absent))
 }

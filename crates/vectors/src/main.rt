@@ -10,8 +10,9 @@ mod of_numbers;
 ghost use Rattle.std.specs.Prelude.{◌≡◌, ◌<◌};
 ghost use Rattle.vectors.specs.OfNumbers.{answer_of};
 
-use libc::{STDIN_FILENO, STDOUT_FILENO};
 use name::COUNT;
+use std::io;
+use std::io::Read;
 
 // Two counts for each function.
 const COUNTS: usize = 34;
@@ -54,10 +55,8 @@ fn of_line(s: &[u8; 128], end: usize) -> Verdict {
     compared(f, w)
 }
 
-fn say(number: u64, what: &[u8]) {
-    io::write_all(STDOUT_FILENO, b"line ");
-    io::print_decimal(STDOUT_FILENO, number);
-    io::write_all(STDOUT_FILENO, what);
+fn say(rt: &impl Print, number: u64, what: &str) -> io::Result<()> {
+    println!(rt; "line {number} {what}")
 }
 
 // One more, at a place that exists.
@@ -68,7 +67,7 @@ fn count(tally: &mut [u64; COUNTS], k: usize) {
 }
 
 // A whole line: the first COUNT of the tally count the lines of a function, the others those that agreed.
-fn judge(s: &[u8; 128], at: Place, tally: &mut [u64; COUNTS]) {
+fn judge(rt: &impl Print, s: &[u8; 128], at: Place, tally: &mut [u64; COUNTS]) -> io::Result<()> {
     let number = at.number;
     let v = of_line(s, at.length);
     match v {
@@ -77,45 +76,54 @@ fn judge(s: &[u8; 128], at: Place, tally: &mut [u64; COUNTS]) {
                 count(tally, f);
                 count(tally, f + COUNT);
             }
+            Ok(())
         }
         Verdict::Differs(f) => {
             count(tally, f);
-            say(number, b" differs\n");
+            say(rt, number, "differs")
         }
-        Verdict::Bad => {
-            say(number, b" bad\n");
-        }
+        Verdict::Bad => say(rt, number, "bad"),
     }
 }
 
 // One byte more of the input. A line that fills its room is too long, and bad.
-fn byte(c: u8, s: &mut [u8; 128], at: Place, tally: &mut [u64; COUNTS]) -> Place {
+fn byte(
+    rt: &impl Print,
+    c: u8,
+    s: &mut [u8; 128],
+    at: Place,
+    tally: &mut [u64; COUNTS],
+) -> io::Result<Place> {
     let length = at.length;
     if c == b'\n' {
-        judge(s, at, tally);
-        return Place {
+        judge(rt, s, at, tally)?;
+        return Ok(Place {
             length: 0,
             number: std::num::wrapping_add_u64(at.number, 1),
-        };
+        });
     }
     if length < 128 {
         s[length] = c;
-        return Place {
+        return Ok(Place {
             length: length + 1,
             number: at.number,
-        };
+        });
     }
-    at
+    Ok(at)
 }
 
-fn bytes(read: &[u8], s: &mut [u8; 128], start: Place, tally: &mut [u64; COUNTS]) -> Place {
+fn bytes(
+    rt: &impl Print,
+    read: &[u8],
+    s: &mut [u8; 128],
+    start: Place,
+    tally: &mut [u64; COUNTS],
+) -> io::Result<Place> {
     let mut at = start;
-    let mut i = 0usize;
-    while i < read.len() {
-        at = byte(read[i], s, at, tally);
-        i += 1;
+    for c in read {
+        at = byte(rt, *c, s, at, tally)?;
     }
-    at
+    Ok(at)
 }
 
 #[derive(Clone, Copy)]
@@ -125,57 +133,59 @@ struct Step {
 }
 
 // Reads once. Keeping the loop out of it keeps the buffer out of the loop's proof.
-fn some(s: &mut [u8; 128], at: Place, tally: &mut [u64; COUNTS]) -> Step {
-    let mut read = io::buffer();
-    let n = io::read_full(STDIN_FILENO, &mut read);
-    let next = bytes(&read[..n], s, at, tally);
-    Step {
+fn some(
+    rt: &impl Print,
+    input: &mut impl Read,
+    s: &mut [u8; 128],
+    at: Place,
+    tally: &mut [u64; COUNTS],
+) -> io::Result<Step> {
+    let mut read = [0u8; 4096];
+    let n = input.read(&mut read)?;
+    let next = bytes(rt, &read[..n], s, at, tally)?;
+    Ok(Step {
         at: next,
-        more: n == 4096,
-    }
+        more: 0 < n,
+    })
 }
 
-// The turns are counted down, since nothing says that the input ends.
-fn replay(tally: &mut [u64; COUNTS]) {
+// The turns are counted, since nothing says that the input ends.
+fn replay(rt: &(impl Input + Print), tally: &mut [u64; COUNTS]) -> io::Result<()> {
+    let mut input = rt.reader();
     let mut s = [0u8; 128];
     let mut at = Place {
         length: 0,
         number: 1,
     };
-    let mut turns = u64::MAX;
-    while turns > 0 {
-        let step = some(&mut s, at, tally);
+    for _ in 0..u64::MAX {
+        let step = some(rt, &mut input, &mut s, at, tally)?;
         at = step.at;
         if !step.more {
             break;
         }
-        turns -= 1;
     }
     if 0 < at.length {
-        judge(&s, at, tally);
+        judge(rt, &s, at, tally)?;
     }
+    Ok(())
 }
 
-fn row(f: usize, agreed: u64, asked: u64)
+fn row(rt: &impl Print, f: usize, agreed: u64, asked: u64) -> io::Result<()>
     requires { f < 17 }
 {
-    name::print(f);
-    io::print_decimal(STDOUT_FILENO, agreed);
-    io::write_all(STDOUT_FILENO, b" of ");
-    io::print_decimal(STDOUT_FILENO, asked);
-    io::write_all(STDOUT_FILENO, b"\n");
+    name::print(rt, f)?;
+    println!(rt; "{agreed} of {asked}")
 }
 
-fn report(tally: &[u64; COUNTS]) {
-    let mut f = 0usize;
-    while f < COUNT {
-        row(f, tally[f + COUNT], tally[f]);
-        f += 1;
+fn report(rt: &impl Print, tally: &[u64; COUNTS]) -> io::Result<()> {
+    for f in 0..COUNT {
+        row(rt, f, tally[f + COUNT], tally[f])?;
     }
+    Ok(())
 }
 
-fn main() {
+fn main(rt: HostRuntime) -> io::Result<()> {
     let mut tally = [0u64; COUNTS];
-    replay(&mut tally);
-    report(&tally);
+    replay(&rt, &mut tally)?;
+    report(&rt, &tally)
 }

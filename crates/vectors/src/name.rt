@@ -1,7 +1,7 @@
 // The functions' names, each with blanks up to twelve characters. A function's number is its place.
 ghost use Rattle.std.specs.Prelude.{◌≡◌, ◌<◌, ◌≤◌, length};
 
-use libc::STDOUT_FILENO;
+use std::io;
 
 pub const COUNT: usize = 17;
 
@@ -41,10 +41,10 @@ pub fn find(s: &[u8; 128], stop: usize) -> usize
     COUNT
 }
 
-pub fn print(k: usize)
+pub fn print(rt: &impl Print, k: usize) -> io::Result<()>
     requires { k < 17 }
 {
     let all = names();
     let at = k * 12;
-    io::write_all(STDOUT_FILENO, &all[at..at + 12]);
+    rt.write_all(&all[at..at + 12])
 }

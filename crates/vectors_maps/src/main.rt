@@ -12,10 +12,11 @@ mod print;
 mod squares;
 mod words;
 
-ghost use Rattle.std.specs.Prelude.{◌<◌, ◌≤◌};
+ghost use Rattle.std.specs.Prelude.{◌<◌, ◌≤◌, IfOk};
 ghost use Rattle.vectors_maps.specs.Maps.{Small};
 
-use libc::{STDIN_FILENO, STDOUT_FILENO};
+use std::io;
+use std::io::Read;
 use words::Line;
 
 #[derive(Clone, Copy)]
@@ -65,10 +66,8 @@ fn of_line(f: usize, l: Line, s: &[u64; 64]) -> Judged
     by_word(f, s, l.at, nx, ny)
 }
 
-fn say(number: u64, what: &[u8]) {
-    io::write_all(STDOUT_FILENO, b"line ");
-    io::print_decimal(STDOUT_FILENO, number);
-    io::write_all(STDOUT_FILENO, what);
+fn say(rt: &impl Print, number: u64, what: &str) -> io::Result<()> {
+    println!(rt; "line {number} {what}")
 }
 
 // One more, at a place that exists.
@@ -79,7 +78,7 @@ fn count(tally: &mut [u64; 8], k: usize) {
 }
 
 // A whole line: the first four of the tally count the lines of a word, the others those that agreed.
-fn judge(l: Line, s: &[u64; 64], tally: &mut [u64; 8])
+fn judge(rt: &impl Print, l: Line, s: &[u64; 64], tally: &mut [u64; 8]) -> io::Result<()>
     requires { l.at < 64 }
 {
     let f = number_of(s[0]);
@@ -88,39 +87,50 @@ fn judge(l: Line, s: &[u64; 64], tally: &mut [u64; 8])
         Judged::Agrees => {
             count(tally, f);
             count(tally, f + 4);
+            Ok(())
         }
         Judged::Differs => {
             count(tally, f);
-            say(l.number, b" differs\n");
+            say(rt, l.number, "differs")
         }
-        Judged::Bad => {
-            say(l.number, b" bad\n");
-        }
+        Judged::Bad => { say(rt, l.number, "bad") }
     }
 }
 
 // One byte more of the input.
-fn byte(c: u8, s: &mut [u64; 64], l: Line, tally: &mut [u64; 8]) -> Line
+fn byte(
+    rt: &impl Print,
+    c: u8,
+    s: &mut [u64; 64],
+    l: Line,
+    tally: &mut [u64; 8],
+) -> io::Result<Line>
     requires { l.at < 64 }
-    ensures { result.at < 64 }
+    ensures { IfOk result (λ r. r.at < 64) }
 {
     if c == b'\n' {
-        judge(l, s, tally);
+        judge(rt, l, s, tally)?;
         s[0] = 0;
-        return words::begin(std::num::wrapping_add_u64(l.number, 1));
+        return Ok(words::begin(std::num::wrapping_add_u64(l.number, 1)));
     }
-    words::step(l, s, c)
+    Ok(words::step(l, s, c))
 }
 
-fn bytes(read: &[u8], s: &mut [u64; 64], start: Line, tally: &mut [u64; 8]) -> Line
+fn bytes(
+    rt: &impl Print,
+    read: &[u8],
+    s: &mut [u64; 64],
+    start: Line,
+    tally: &mut [u64; 8],
+) -> io::Result<Line>
     requires { start.at < 64 }
-    ensures { result.at < 64 }
+    ensures { IfOk result (λ r. r.at < 64) }
 {
     let mut l = start;
-    for i in 0..read.len() {
-        l = byte(read[i], s, l, tally);
+    for c in read {
+        l = byte(rt, *c, s, l, tally)?;
     }
-    l
+    Ok(l)
 }
 
 #[derive(Clone, Copy)]
@@ -130,54 +140,52 @@ struct Part {
 }
 
 // Reads once. Keeping the loop out of it keeps the buffer out of the loop's proof.
-fn some(s: &mut [u64; 64], l: Line, tally: &mut [u64; 8]) -> Part
+fn some(
+    rt: &impl Print,
+    input: &mut impl Read,
+    s: &mut [u64; 64],
+    l: Line,
+    tally: &mut [u64; 8],
+) -> io::Result<Part>
     requires { l.at < 64 }
-    ensures { result.line.at < 64 }
+    ensures { IfOk result (λ r. r.line.at < 64) }
 {
-    let mut read = io::buffer();
-    let n = io::read_full(STDIN_FILENO, &mut read);
-    let line = bytes(&read[..n], s, l, tally);
-    Part {
-        line,
-        more: n == 4096,
-    }
+    let mut read = [0u8; 4096];
+    let n = input.read(&mut read)?;
+    let line = bytes(rt, &read[..n], s, l, tally)?;
+    Ok(Part { line, more: 0 < n })
 }
 
-// Reads to the end; what is left is the last line. The turns are counted down, since nothing says that the
-// input ends.
-fn replay(s: &mut [u64; 64], tally: &mut [u64; 8]) -> Line
-    ensures { result.at < 64 }
+// Reads to the end; what is left is the last line. The turns are counted, since nothing says that the input
+// ends.
+fn replay(rt: &(impl Input + Print), s: &mut [u64; 64], tally: &mut [u64; 8]) -> io::Result<Line>
+    ensures { IfOk result (λ r. r.at < 64) }
 {
+    let mut input = rt.reader();
     let mut l = words::begin(1);
-    let mut turns = u64::MAX;
-    while turns > 0 {
-        let part = some(s, l, tally);
+    for _ in 0..u64::MAX {
+        let part = some(rt, &mut input, s, l, tally)?;
         l = part.line;
         if !part.more {
-            return l;
+            break;
         }
-        turns -= 1;
     }
-    l
+    Ok(l)
 }
 
-fn row(name: &[u8], agreed: u64, asked: u64) {
-    io::write_all(STDOUT_FILENO, name);
-    io::print_decimal(STDOUT_FILENO, agreed);
-    io::write_all(STDOUT_FILENO, b" of ");
-    io::print_decimal(STDOUT_FILENO, asked);
-    io::write_all(STDOUT_FILENO, b"\n");
+fn row(rt: &impl Print, name: &str, agreed: u64, asked: u64) -> io::Result<()> {
+    println!(rt; "{name}{agreed} of {asked}")
 }
 
-fn main() {
+fn main(rt: HostRuntime) -> io::Result<()> {
     let mut s = [0u64; 64];
     let mut tally = [0u64; 8];
-    let l = replay(&mut s, &mut tally);
+    let l = replay(&rt, &mut s, &mut tally)?;
     if (0 < l.at) | !l.empty {
-        judge(l, &s, &mut tally);
+        judge(&rt, l, &s, &mut tally)?;
     }
-    row(b"crescent  ", tally[4], tally[0]);
-    row(b"fill      ", tally[5], tally[1]);
-    row(b"contact   ", tally[6], tally[2]);
-    row(b"squares   ", tally[7], tally[3]);
+    row(&rt, "crescent  ", tally[4], tally[0])?;
+    row(&rt, "fill      ", tally[5], tally[1])?;
+    row(&rt, "contact   ", tally[6], tally[2])?;
+    row(&rt, "squares   ", tally[7], tally[3])
 }

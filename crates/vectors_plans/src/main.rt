@@ -5,68 +5,68 @@
 ghost use Rattle.std.specs.Prelude.{◌≤◌, length};
 
 use entry::params::{AdaptiveParams, Setting};
-use libc::STDOUT_FILENO;
 use planner::outcome::{Answer, adaptive_clear};
 use report::report::AdaptiveReport;
+use std::io;
 
-fn say(n: u64) {
-    io::print_decimal(STDOUT_FILENO, n);
-    io::write_all(STDOUT_FILENO, b"\n");
+fn say(rt: &impl Print, n: u64) -> io::Result<()> {
+    println!(rt; "{n}")
 }
 
-fn say_float(x: f64) {
-    say(bits::pattern(x));
+fn say_float(rt: &impl Print, x: f64) -> io::Result<()> {
+    say(rt, bits::pattern(x))
 }
 
-fn say_flag(x: bool) {
-    say(if x { 1 } else { 0 });
+fn say_flag(rt: &impl Print, x: bool) -> io::Result<()> {
+    say(rt, if x { 1 } else { 0 })
 }
 
-fn say_counts(r: AdaptiveReport) {
-    say(r.layers as u64);
-    say(r.passes as u64);
-    say(r.helix_entries as u64);
-    say(r.retracts as u64);
-    say(r.links as u64);
-    say(r.starting_cells as u64);
-    say(r.standing_cells as u64);
-    say(r.helix_given_up as u64);
-    say_flag(r.spent_budget);
-    say_flag(r.left_reachable);
+fn say_counts(rt: &impl Print, r: AdaptiveReport) -> io::Result<()> {
+    say(rt, r.layers as u64)?;
+    say(rt, r.passes as u64)?;
+    say(rt, r.helix_entries as u64)?;
+    say(rt, r.retracts as u64)?;
+    say(rt, r.links as u64)?;
+    say(rt, r.starting_cells as u64)?;
+    say(rt, r.standing_cells as u64)?;
+    say(rt, r.helix_given_up as u64)?;
+    say_flag(rt, r.spent_budget)?;
+    say_flag(rt, r.left_reachable)
 }
 
-fn say_areas(r: AdaptiveReport) {
-    say_float(r.planned_max_engagement_deg);
-    say_float(r.removed_area);
-    say_float(r.remaining_reachable_area);
-    say_float(r.unreachable_area);
+fn say_areas(rt: &impl Print, r: AdaptiveReport) -> io::Result<()> {
+    say_float(rt, r.planned_max_engagement_deg)?;
+    say_float(rt, r.removed_area)?;
+    say_float(rt, r.remaining_reachable_area)?;
+    say_float(rt, r.unreachable_area)
 }
 
-fn say_answer(a: Answer) {
+fn say_answer(rt: &impl Print, a: Answer) -> io::Result<()> {
     match a {
-        Answer::Refused(n) => say(n as u64),
+        Answer::Refused(n) => say(rt, n as u64),
         Answer::Accepted(r) => {
-            say(0);
-            say_counts(r);
-            say_areas(r);
+            say(rt, 0)?;
+            say_counts(rt, r)?;
+            say_areas(rt, r)
         }
     }
 }
 
-fn say_bytes(b: &[u8]) {
-    say(prints::of_map(b, b.len()));
+fn say_bytes(rt: &impl Print, b: &[u8]) -> io::Result<()> {
+    say(rt, prints::of_map(b, b.len()))
 }
 
-fn say_numbers(s: &[u32]) {
-    say(prints::of_numbers(s, s.len()));
+fn say_numbers(rt: &impl Print, s: &[u32]) -> io::Result<()> {
+    say(rt, prints::of_numbers(s, s.len()))
 }
 
-fn say_floats(w: &[f64]) {
-    say(prints::of_floats(w, w.len()));
+fn say_floats(rt: &impl Print, w: &[f64]) -> io::Result<()> {
+    say(rt, prints::of_floats(w, w.len()))
 }
 
 // Plans with so many numbers of rows and triples lent; the answer, and the fingerprint of each slice.
 fn plan_in(
+    rt: &impl Print,
     p: AdaptiveParams,
     whole: bool,
     vs: &[f64],
@@ -80,7 +80,7 @@ fn plan_in(
     triples: &mut [f64],
     r: usize,
     t: usize,
-)
+) -> io::Result<()>
     requires r_in_bounds { r ≤ length rows.old }
     requires t_in_bounds { t ≤ length triples.old }
 {
@@ -97,15 +97,16 @@ fn plan_in(
         &mut rows[0..r],
         &mut triples[0..t],
     );
-    say_answer(a);
-    say_bytes(b);
-    say_numbers(u);
-    say_floats(w);
-    say_numbers(rows);
-    say_floats(triples);
+    say_answer(rt, a)?;
+    say_bytes(rt, b)?;
+    say_numbers(rt, u)?;
+    say_floats(rt, w)?;
+    say_numbers(rt, rows)?;
+    say_floats(rt, triples)
 }
 
 fn plan(
+    rt: &impl Print,
     p: AdaptiveParams,
     whole: bool,
     vs: &[f64],
@@ -113,7 +114,7 @@ fn plan(
     regions: &[u32],
     r: usize,
     t: usize,
-)
+) -> io::Result<()>
     requires r_bound { r ≤ 300 }
     requires t_bound { t ≤ 3006 }
 {
@@ -124,6 +125,7 @@ fn plan(
     let mut rows = [7u32; 300];
     let mut triples = [7.0f64; 3006];
     plan_in(
+        rt,
         p,
         whole,
         vs,
@@ -137,7 +139,7 @@ fn plan(
         &mut triples,
         r,
         t,
-    );
+    )
 }
 
 // The job doc-res-0.1: 51 rows, 1,001 triples.
@@ -161,27 +163,36 @@ fn params(keep_tool_down: bool) -> AdaptiveParams {
     }
 }
 
-fn square(r: usize, t: usize)
+fn square(rt: &impl Print, r: usize, t: usize) -> io::Result<()>
     requires r_bound { r ≤ 300 }
     requires t_bound { t ≤ 3006 }
 {
     let vs = [0.0f64, 0.0, 9.0, 0.0, 9.0, 9.0, 0.0, 9.0];
-    plan(params(true), true, &vs, &[4u32], &[1u32], r, t);
+    plan(rt, params(true), true, &vs, &[4u32], &[1u32], r, t)
 }
 
 // Stock over two thirds of it, and the tool lifted after each pass.
-fn lifted() {
+fn lifted(rt: &impl Print) -> io::Result<()> {
     let vs = [
         0.0f64, 0.0, 9.0, 0.0, 9.0, 9.0, 0.0, 9.0, 3.0, 0.0, 9.0, 0.0, 9.0, 9.0, 3.0, 9.0,
     ];
-    plan(params(false), false, &vs, &[4u32, 4], &[1u32, 1], 300, 3006);
+    plan(
+        rt,
+        params(false),
+        false,
+        &vs,
+        &[4u32, 4],
+        &[1u32, 1],
+        300,
+        3006,
+    )
 }
 
 // With exactly what it needs, with a rest of two numbers, with a triple and with a row too few.
-fn main() {
-    square(153, 3003);
-    square(155, 3005);
-    square(153, 3002);
-    square(152, 3003);
-    lifted();
+fn main(rt: HostRuntime) -> io::Result<()> {
+    square(&rt, 153, 3003)?;
+    square(&rt, 155, 3005)?;
+    square(&rt, 153, 3002)?;
+    square(&rt, 152, 3003)?;
+    lifted(&rt)
 }

@@ -1,5 +1,4 @@
 -- `bench_talk::is_wrong` meets its contract. Assumes nothing.
-use Rattle.std.proofs.Common.{rules}
 use Rattle.bench_lines.specs.Reader.{is_wrong}
 use Rattle.bench_talk.proofs.is_wrong.Goals as goal
 

@@ -1,5 +1,5 @@
 -- `vectors::compared` meets its contract: the two other answers are not `Agrees`. Assumes nothing.
-use Rattle.std.proofs.Common.{◌≡◌, ℕ, arith, rules}
+use Rattle.std.proofs.Common.{◌≡◌, ℕ, arith}
 use Rattle.vectors.proofs.compared.Goals as goal
 
 pub returns-then-w-arguments : goal.returns-then-w-arguments

@@ -1,6 +1,5 @@
 -- `vectors_maps::of_line` is safe: sides that are tested are small. Assumes nothing.
 use Rattle.vectors_maps.proofs.MapLaws.{small-sides}
-use Rattle.std.proofs.Common.{rules}
 use Rattle.vectors_maps.proofs.of_line.Goals as goal
 
 pub by_word-requires : goal.by_word-requires

@@ -2,7 +2,6 @@
 use mathlib.Core.Path.{refl}
 use borrow.Author.Tests.{eq-eqb, ne_eqb}
 use Rattle.bench_lines.specs.Line.{word_of}
-use borrow.Author.Rules.{rules}
 use Rattle.bench_lines.proofs.line.by_word.Goals as goal
 
 pub returns-then-w-eq7168368 : goal.returns-then-w-eq7168368

@@ -2,7 +2,6 @@
 use mathlib.Core.Path.{◌∙◌}
 use Rattle.bench_lines.proofs.CondLaws.{if_so, if_not}
 use Rattle.bench_lines.specs.Line.{line_of}
-use borrow.Author.Rules.{rules}
 use Rattle.bench_lines.proofs.line.finish.Goals as goal
 
 pub returns-then-w : goal.returns-then-w

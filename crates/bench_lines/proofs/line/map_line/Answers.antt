@@ -2,7 +2,6 @@
 use borrow.Author.Tests.{eq-eqb, ne_eqb}
 use mathlib.Core.Path.{refl, sym, ◌∙◌}
 use Rattle.bench_lines.specs.Line.{map_of}
-use borrow.Author.Rules.{rules}
 use Rattle.bench_lines.proofs.line.map_line.Goals as goal
 
 pub returns-then-is_side-2 : goal.returns-then-is_side-2

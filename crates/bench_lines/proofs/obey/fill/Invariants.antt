@@ -1,12 +1,7 @@
 -- `bench_lines::obey::fill` meets its contract. The invariant: the map is what the cells so far leave. Assumes nothing.
-use mathlib.Core.Path.{◌≡◌, ap, ◌∙◌}
-use mathlib.Core.Logic.{⊎_elim}
-use Prim.Native.Nat.{◌-◌}
-use native.Mathlib.Omega.{arith}
 use lib.ListN.{length}
-use Rattle.loops.proofs.LoopLaws.{Going, going_none, going_more, going_end}
-use Rattle.bench_lines.specs.Obey.{fill_cell, filled}
-use Rattle.bench_lines.proofs.ObeyLaws.{fill_in, fill_out, fill_long}
+use Rattle.loops.proofs.LoopLaws.{Going}
+use Rattle.bench_lines.specs.Obey.{fill_cell}
 use Rattle.bench_lines.proofs.obey.fill.Given as goal
 
 abbrev pub invariant-loop-k : goal.invariant-loop-k

@@ -1,7 +1,6 @@
 -- `bench_lines::obey::new_map` meets its contract. Assumes nothing.
 use native.Mathlib.Omega.{arith}
 use Rattle.bench_lines.proofs.ObeyLaws.{few, map_is}
-use borrow.Author.Rules.{rules}
 use Rattle.bench_lines.proofs.obey.new_map.Goals as goal
 
 pub overflow_mul-ny : goal.overflow_mul-ny

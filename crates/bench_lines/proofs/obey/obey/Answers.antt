@@ -2,7 +2,6 @@
 use mathlib.Core.Path.{subst}
 use Rattle.bench_lines.specs.Line.{Sound}
 use Rattle.bench_lines.proofs.ObeyLaws.{obey_map, obey_pass, obey_no_map, obey_undo, obey_no_pass, obey_bad}
-use borrow.Author.Rules.{rules}
 use Rattle.bench_lines.proofs.obey.obey.Goals as goal
 
 pub new_map-requires : goal.new_map-requires

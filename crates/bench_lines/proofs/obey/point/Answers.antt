@@ -1,6 +1,5 @@
 -- `bench_lines::obey::point` meets its contract. Assumes nothing.
 use mathlib.Core.Path.{refl}
-use borrow.Author.Rules.{rules}
 use Rattle.bench_lines.proofs.obey.point.Goals as goal
 
 pub returns : goal.returns

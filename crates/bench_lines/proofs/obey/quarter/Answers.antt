@@ -1,6 +1,5 @@
 -- `bench_lines::obey::quarter` meets its contract. Assumes nothing.
 use mathlib.Core.Path.{refl}
-use borrow.Author.Rules.{rules}
 use Rattle.bench_lines.proofs.obey.quarter.Goals as goal
 
 pub returns : goal.returns

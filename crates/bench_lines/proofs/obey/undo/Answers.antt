@@ -1,6 +1,5 @@
 -- `bench_lines::obey::undo` meets its contract. Assumes nothing.
 use Rattle.bench_lines.proofs.ObeyLaws.{undo_is}
-use borrow.Author.Rules.{rules}
 use Rattle.bench_lines.proofs.obey.undo.Goals as goal
 
 pub returns : goal.returns

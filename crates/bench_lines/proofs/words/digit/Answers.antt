@@ -3,7 +3,6 @@ use mathlib.Core.Path.{◌∙◌}
 use Rattle.bench_lines.proofs.CondLaws.{if_so, if_not}
 use borrow.Author.Tests.{lt-ltb, le-ltb}
 use Rattle.bench_lines.specs.Words.{digit_of}
-use borrow.Author.Rules.{rules}
 use Rattle.bench_lines.proofs.words.digit.Goals as goal
 
 pub returns-then-c-lt48 : goal.returns-then-c-lt48

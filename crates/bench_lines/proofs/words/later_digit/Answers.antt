@@ -2,7 +2,6 @@
 use mathlib.Core.Path.{refl}
 use borrow.Author.Tests.{lt-ltb, le-ltb, eq-eqb, ne_eqb}
 use Rattle.bench_lines.specs.Words.{later_digit}
-use borrow.Author.Rules.{rules}
 use Rattle.bench_lines.proofs.words.later_digit.Goals as goal
 
 pub returns-then-last-eq0 : goal.returns-then-last-eq0

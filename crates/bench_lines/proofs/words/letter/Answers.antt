@@ -2,7 +2,6 @@
 use mathlib.Core.Path.{refl}
 use borrow.Author.Tests.{lt-ltb, le-ltb}
 use Rattle.bench_lines.specs.Words.{letter_of}
-use borrow.Author.Rules.{rules}
 use Rattle.bench_lines.proofs.words.letter.Goals as goal
 
 pub returns-then-c-lt97 : goal.returns-then-c-lt97

@@ -3,7 +3,6 @@ use mathlib.Core.Path.{◌∙◌}
 use Rattle.bench_lines.proofs.CondLaws.{if_so, if_not}
 use borrow.Author.Tests.{eq-eqb, ne_eqb}
 use Rattle.bench_lines.specs.Words.{step_of}
-use borrow.Author.Rules.{rules}
 use Rattle.bench_lines.proofs.words.step.Goals as goal
 
 pub returns-then-w : goal.returns-then-w

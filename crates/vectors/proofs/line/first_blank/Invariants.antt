@@ -1,5 +1,5 @@
 -- `vectors::line::first_blank` is safe and ends. Assumes nothing.
-use Rattle.std.proofs.Common.{◌-◌, ◌≤◌, arith, rules}
+use Rattle.std.proofs.Common.{◌-◌, ◌≤◌}
 use Rattle.vectors.proofs.line.first_blank.Given as goal
 
 abbrev pub invariant-loop-k : goal.invariant-loop-k

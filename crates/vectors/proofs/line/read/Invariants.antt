@@ -1,5 +1,5 @@
 -- `vectors::line::read` is safe and ends. Assumes nothing.
-use Rattle.std.proofs.Common.{◌-◌, arith, rules}
+use Rattle.std.proofs.Common.{◌-◌}
 use Rattle.vectors.proofs.line.read.Given as goal
 
 abbrev pub invariant-loop-k : goal.invariant-loop-k

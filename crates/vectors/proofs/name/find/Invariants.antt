@@ -1,5 +1,5 @@
 -- `vectors::name::find` meets its contract and ends. Assumes nothing.
-use Rattle.std.proofs.Common.{◌-◌, ◌≤◌, arith, rules}
+use Rattle.std.proofs.Common.{◌-◌, ◌≤◌}
 use Rattle.vectors.proofs.name.find.Given as goal
 
 abbrev pub invariant-loop-k : goal.invariant-loop-k

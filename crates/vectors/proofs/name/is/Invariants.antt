@@ -1,5 +1,5 @@
 -- `vectors::name::is` is safe and ends. Assumes nothing.
-use Rattle.std.proofs.Common.{◌-◌, ◌≤◌, rules}
+use Rattle.std.proofs.Common.{◌-◌, ◌≤◌}
 use Rattle.vectors.proofs.name.is.Given as goal
 
 abbrev pub invariant-loop-i : goal.invariant-loop-i

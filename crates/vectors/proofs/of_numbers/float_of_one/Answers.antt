@@ -1,5 +1,5 @@
 -- `vectors::of_numbers::float_of_one` meets its contract: the row of each number. Assumes nothing.
-use Rattle.std.proofs.Common.{ℕ, sym, ap, ◌∙◌, rules, ne_eqb}
+use Rattle.std.proofs.Common.{arith, ℕ, sym, ap, ◌∙◌}
 use Rattle.vectors.specs.OfNumbers.{float_of_one}
 use Rattle.vectors.proofs.of_numbers.float_of_one.Goals as goal
 
@@ -37,6 +37,4 @@ returns-in-14 c = c.to_radians.ensures ∙ ap (λ (g : ℕ). float_of_one g c.ar
 
 pub returns-in_default : goal.returns-in_default
 unfolding float_of_one
-returns-in_default c =    let f = c.args.f in
-    let n = c.in_default.rest in
-    rw (ne_eqb f 5 n.0.0.0.0.0.0.0.1, ne_eqb f 7 n.0.0.0.0.0.0.1, ne_eqb f 8 n.0.0.0.0.0.1, ne_eqb f 9 n.0.0.0.0.1, ne_eqb f 11 n.0.0.0.1, ne_eqb f 12 n.0.0.1, ne_eqb f 13 n.0.1, ne_eqb f 14 n.1) c.to_degrees.ensures
+returns-in_default c = grind arith

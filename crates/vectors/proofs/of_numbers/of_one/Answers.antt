@@ -1,6 +1,6 @@
 -- `vectors::of_numbers::of_one` meets its contract: the row of each number. Assumes nothing.
-use Rattle.std.proofs.Common.{ℕ, sym, ap, ◌∙◌, rules, ne_eqb}
-use lib.Ieee.{binary32, binary64, to_bits}
+use Rattle.std.proofs.Common.{arith, ℕ, sym, ap, ◌∙◌}
+use lib.Ieee.{binary32, to_bits}
 use Rattle.vectors.specs.OfNumbers.{flag_of, one_of}
 use Rattle.vectors.proofs.of_numbers.of_one.Goals as goal
 
@@ -22,6 +22,4 @@ returns-in-10 c = c.single_pattern.ensures ∙ ap (to_bits binary32) c.narrow.en
 
 pub returns-in_default : goal.returns-in_default
 unfolding one_of
-returns-in_default c =    let f = c.args.f in
-    let n = c.in_default.rest in
-    rw (ne_eqb f 0 n.0.0.0.1, ne_eqb f 1 n.0.0.1, ne_eqb f 6 n.0.1, ne_eqb f 10 n.1) (c.pattern.ensures ∙ ap (to_bits binary64) c.float_of_one.ensures)
+returns-in_default c = grind arith

@@ -1,5 +1,5 @@
 -- `vectors::of_numbers::order` meets its contract: a number for each case. Assumes nothing.
-use Rattle.std.proofs.Common.{sym, ap, ◌∙◌, rules}
+use Rattle.std.proofs.Common.{sym, ap, ◌∙◌}
 use Rattle.vectors.specs.OfNumbers.{sign_of}
 use Rattle.vectors.proofs.of_numbers.order.Goals as goal
 

@@ -1,5 +1,5 @@
 -- `vectors_maps::fill::judged` meets its contract: the other answers are not `Agrees`. Assumes nothing.
-use Rattle.std.proofs.Common.{refl, arith, rules}
+use Rattle.std.proofs.Common.{refl, arith}
 use Rattle.vectors_maps.proofs.MapLaws.{few, over_made}
 use Rattle.vectors_maps.proofs.AnswerLaws.{not_bad, not_differs, fill_agrees}
 use Rattle.vectors_maps.proofs.fill.judged.Goals as goal
@@ -17,7 +17,7 @@ pub make-requires : goal.make-requires
 make-requires c = omega (arith, few _ _ c.requires)
 
 pub filled-requires : goal.filled-requires
-filled-requires c = record { over = over_made _ _ _ _ _ _ _ _ _ c.requires c.grid.ensures c.make.ensures refl; c_bound = c.if-total-gt24.false; }
+filled-requires c = record { over = over_made _ _ _ _ _ _ _ _ _ c.requires c.grid.ensures c.make.ensures refl; c_bound = c.if-total-gt24.false }
 
 pub of_map-requires : goal.of_map-requires
 of_map-requires c = omega (arith, few _ _ c.requires)

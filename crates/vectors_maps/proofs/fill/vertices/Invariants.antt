@@ -1,9 +1,7 @@
 -- `vectors_maps::fill::vertices` meets its contract. The invariant: the floats so far are written. Assumes nothing.
-use Rattle.std.proofs.Common.{◌≡◌, ◌+◌, ◌-◌, length, set, ap, ◌∙◌, arith, rules}
-use Rattle.loops.proofs.LoopLaws.{Going, going_none, going_more, going_end}
+use Rattle.std.proofs.Common.{◌+◌, set}
+use Rattle.loops.proofs.LoopLaws.{Going}
 use Rattle.vectors_maps.specs.Maps.{float_at}
-use Rattle.vectors_maps.specs.Answers.{vertices_of}
-use Rattle.vectors_maps.proofs.AnswerLaws.{vertices-long}
 use Rattle.vectors_maps.proofs.fill.vertices.Given as goal
 
 abbrev pub invariant-loop-k : goal.invariant-loop-k

@@ -1,5 +1,4 @@
 -- `vectors_maps::maps::grid` meets its contract. Assumes nothing.
-use Rattle.std.proofs.Common.{rules}
 use Rattle.vectors_maps.specs.Maps.{grid_of}
 use Rattle.vectors_maps.proofs.maps.grid.Goals as goal
 

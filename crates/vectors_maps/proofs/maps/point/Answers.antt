@@ -1,7 +1,6 @@
 -- `vectors_maps::maps::point` meets its contract. Assumes nothing.
 use Rattle.vectors_maps.specs.Maps.{point_at}
 use Rattle.geom.specs.Vec.{v2}
-use Rattle.std.proofs.Common.{rules}
 use Rattle.vectors_maps.proofs.maps.point.Goals as goal
 
 pub returns : goal.returns

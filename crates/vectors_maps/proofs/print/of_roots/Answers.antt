@@ -1,8 +1,8 @@
 -- `vectors_maps::print::of_roots` meets its contract. The invariant: the fingerprint is of the distances so far. Assumes nothing.
-use Rattle.loops.proofs.LoopLaws.{Going, going_none, going_more, going_end}
-use Rattle.std.proofs.Common.{◌-◌, ap, ◌∙◌, rules}
+use Rattle.loops.proofs.LoopLaws.{going_none, going_more, going_end}
+use Rattle.std.proofs.Common.{ap, ◌∙◌}
 use lib.Ieee.{binary64, to_bits}
-use Rattle.vectors_maps.specs.Print.{mix_root, roots_of}
+use Rattle.vectors_maps.specs.Print.{roots_of}
 use Rattle.prints.specs.Print.{mixed}
 use Rattle.vectors_maps.proofs.print.of_roots.Goals as goal
 

@@ -1,5 +1,5 @@
 -- `vectors_maps::squares::judged` meets its contract: the other answers are not `Agrees`. Assumes nothing.
-use Rattle.std.proofs.Common.{arith, rules}
+use Rattle.std.proofs.Common.{arith}
 use Rattle.vectors_maps.proofs.MapLaws.{few, sides-small}
 use Rattle.vectors_maps.proofs.AnswerLaws.{not_bad, not_differs, squares_agree}
 use Rattle.vectors_maps.proofs.squares.judged.Goals as goal
@@ -14,7 +14,7 @@ pub make-requires : goal.make-requires
 make-requires c = omega (arith, few _ _ c.requires)
 
 pub transform-requires : goal.transform-requires
-transform-requires c = record { map_sides = sides-small _ _ c.requires; nx_in_bounds = omega (arith, few _ _ c.requires); nx_in_bounds_2 = omega (arith, few _ _ c.requires, c.requires.columns); }
+transform-requires c = record { map_sides = sides-small _ _ c.requires; nx_in_bounds = omega (arith, few _ _ c.requires); nx_in_bounds_2 = omega (arith, few _ _ c.requires, c.requires.columns) }
 
 pub of_numbers-requires : goal.of_numbers-requires
 of_numbers-requires c = omega (arith, few _ _ c.requires)
