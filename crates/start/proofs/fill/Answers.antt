@@ -8,20 +8,20 @@ use Rattle.entry.proofs.RegionsLaws.{held-is}
 use Rattle.start.proofs.fill.Goals as goal
 
 pub stock-requires : goal.stock-requires
-stock-requires c =     let room = c.requires.room in record { sides = c.requires.sides; all_held = c.requires.all_held; pocket_value = c.requires.region_value; nx_in_bounds = room.bytes; nx_in_bounds_2 = room.doubles; }
+stock-requires c = let room = c.requires.room in record { sides = c.requires.sides; all_held = c.requires.all_held; pocket_value = c.requires.region_value; nx_in_bounds = room.bytes; nx_in_bounds_2 = room.doubles }
 
 pub reach-requires : goal.reach-requires
-reach-requires c =     let room = c.requires.room in
-    let k = c.stock.auto.b in record { placed = record { sides = c.requires.sides; held = held-is c.args.vs.now c.args.lens.now c.args.regions.now c.requires.all_held 0 c.requires.all_held.some _ c.requires.region_value; bound = c.requires.bounds }; room = record { bytes = omega (arith, room.bytes, k.0); words = room.words; doubles = omega (arith, room.doubles, k.1.0) }; b_value = c.stock.ensures.inside ∙ ap (inside_of c.args.s.grid c.args.vs.now c.args.lens.now) (sym c.requires.region_value); }
+reach-requires c = let room = c.requires.room in
+    let k = c.stock.auto.b in record { placed = record { sides = c.requires.sides; held = held-is c.args.vs.now c.args.lens.now c.args.regions.now c.requires.all_held 0 c.requires.all_held.some _ c.requires.region_value; bound = c.requires.bounds }; room = record { bytes = omega (arith, room.bytes, k.0); words = room.words; doubles = omega (arith, room.doubles, k.1.0) }; b_value = c.stock.ensures.inside ∙ ap (inside_of c.args.s.grid c.args.vs.now c.args.lens.now) (sym c.requires.region_value) }
 
 pub tables-requires : goal.tables-requires
-tables-requires c = record { sides = c.requires.sides; samples_bound = c.requires.samples_bound; s_in_bounds = omega (arith, c.requires.room.doubles, c.stock.auto.w, c.reach.auto.w); }
+tables-requires c = record { sides = c.requires.sides; samples_bound = c.requires.samples_bound; s_in_bounds = omega (arith, c.requires.room.doubles, c.stock.auto.w, c.reach.auto.w) }
 
 pub clear_log-requires : goal.clear_log-requires
-clear_log-requires c = record { sides = c.requires.sides; nx_in_bounds = omega (arith, c.requires.room.words, c.reach.auto.u); }
+clear_log-requires c = record { sides = c.requires.sides; nx_in_bounds = omega (arith, c.requires.room.words, c.reach.auto.u) }
 
 pub returns : goal.returns
-returns c =    let k = c.stock.auto.b in
+returns c = let k = c.stock.auto.b in
     let l = c.reach.auto.b in
     started-is c.args.s c.args.whole c.args.vs.now c.args.lens.now c.args.regions.now c.args.b.now c.args.u.now c.args.w.now c.requires.sides
     (held-is c.args.vs.now c.args.lens.now c.args.regions.now c.requires.all_held 0 c.requires.all_held.some _ c.requires.region_value) c.requires.bounds c.requires.room

@@ -35,4 +35,4 @@ pub shape_of-rows : goal.shape_of-rows
 shape_of-rows c = linking_rows_long _ _ _ _ _ _ _ _ _ c.loop-k.invariant
 
 pub returns : goal.returns
-returns c =  let l = linking_end _ _ _ _ _ _ _ _ _ c.loop-k.invariant c.loop-k-test.false in record { triples_after = l.triples; rows_after = l.rows; }
+returns c = let l = linking_end _ _ _ _ _ _ _ _ _ c.loop-k.invariant c.loop-k-test.false in record { triples_after = l.triples; rows_after = l.rows }

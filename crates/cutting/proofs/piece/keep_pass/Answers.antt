@@ -12,19 +12,19 @@ fits : (c : Else-no-ne0) → let m = c.moves_of-moves.result in ((c.args.t.tripl
 fits c = keep-fits c.args.s c.args.t c.args.b.now c.args.log.now c.args.path.now _ _ c.args.route c.args.removed _ 0 _ c.moves_of-moves.ensures _ c.refusal-no.ensures c.if-no-ne0.false c.requires.listed
 
 pub returns-then-no-ne0 : goal.returns-then-no-ne0
-returns-then-no-ne0 c = record { result_after = keep-refused c.args.s c.args.t c.args.b.now c.args.log.now c.args.path.now c.args.triples.now c.args.rows.now c.args.route c.args.removed c.args.n (c.args.s.grid.ny * c.args.s.grid.nx) _ c.moves_of-moves.ensures _ c.refusal-no.ensures c.if-no-ne0.true; settled = settled_not _ _ c.requires.s_in_bounds; }
+returns-then-no-ne0 c = record { result_after = keep-refused c.args.s c.args.t c.args.b.now c.args.log.now c.args.path.now c.args.triples.now c.args.rows.now c.args.route c.args.removed c.args.n (c.args.s.grid.ny * c.args.s.grid.nx) _ c.moves_of-moves.ensures _ c.refusal-no.ensures c.if-no-ne0.true; settled = settled_not _ _ c.requires.s_in_bounds }
 
 pub overflow_add-first : goal.overflow_add-first
 overflow_add-first c = omega (arith, c.requires.listed.fit_triples, c.well_formed)
 
 pub list_pass-requires : goal.list_pass-requires
-list_pass-requires c =  let f = fits (goal.at.list_pass-requires c).Else-no-ne0 in let m = c.moves_of-moves.ensures in record { route_in_bounds = c.requires.route_in_bounds; n_in_bounds = omega (arith, f.0, m); route_in_bounds_2 = omega (arith, f.1, m); countable = c.requires.listed.countable; }
+list_pass-requires c = let f = fits (goal.at.list_pass-requires c).Else-no-ne0 in let m = c.moves_of-moves.ensures in record { route_in_bounds = c.requires.route_in_bounds; n_in_bounds = omega (arith, f.0, m); route_in_bounds_2 = omega (arith, f.1, m); countable = c.requires.listed.countable }
 
 pub overflow_mul-s : goal.overflow_mul-s
 overflow_mul-s c = let h = c.requires.sides in omega (arith, h.cells)
 
 pub settle-requires : goal.settle-requires
-settle-requires c = record { n_le_most = c.requires.sides.cells; n_in_bounds = c.requires.s_in_bounds; logged = c.requires.logged; }
+settle-requires c = record { n_le_most = c.requires.sides.cells; n_in_bounds = c.requires.s_in_bounds; logged = c.requires.logged }
 
 pub overflow_add-result : goal.overflow_add-result
 overflow_add-result c = omega (arith, (fits (goal.at.overflow_add-result c).Else-no-ne0).1, c.well_formed)
@@ -39,6 +39,6 @@ pub overflow_add-result-4 : goal.overflow_add-result-4
 overflow_add-result-4 c = omega (arith, (fits (goal.at.overflow_add-result-4 c).Else-no-ne0).0, c.well_formed)
 
 pub returns : goal.returns
-returns c = 
+returns c =
     let r = keep-listed c.args.s c.args.t c.args.b.now c.args.log.now c.args.path.now c.args.triples.now c.args.rows.now c.args.route c.args.removed c.args.n (c.args.s.grid.ny * c.args.s.grid.nx) _ c.moves_of-moves.ensures _ c.refusal-no.ensures c.if-no-ne0.false c.requires.s_in_bounds _ c.greatest-planned_max.ensures _ c.spot-lead.ensures _ c.spot-last.ensures _ c.list_pass.ensures.triples_after _ c.list_pass.ensures.rows_after _ c.settle.ensures in
-    record { result_after = r.0; settled = r.1; }
+    record { result_after = r.0; settled = r.1 }

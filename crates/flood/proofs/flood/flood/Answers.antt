@@ -14,7 +14,7 @@ pub bounds-stack-0 : goal.bounds-stack-0
 bounds-stack-0 c = some-room c.args.g c.requires.sides c.args.stack.now c.requires.nx_in_bounds_2
 
 pub flood_on-requires : goal.flood_on-requires
-flood_on-requires c = record { sides = c.requires.sides; nx_in_bounds = c.requires.nx_in_bounds; nx_in_bounds_2 = simp length-set c.requires.nx_in_bounds_2; stack_bound = omega (arith, c.requires.c_bound, first_cell c.args.stack.now _ _ (some-room c.args.g c.requires.sides c.args.stack.now c.requires.nx_in_bounds_2) c.number_of.ensures); }
+flood_on-requires c = record { sides = c.requires.sides; nx_in_bounds = c.requires.nx_in_bounds; nx_in_bounds_2 = simp length-set c.requires.nx_in_bounds_2; stack_bound = omega (arith, c.requires.c_bound, first_cell c.args.stack.now _ _ (some-room c.args.g c.requires.sides c.args.stack.now c.requires.nx_in_bounds_2) c.number_of.ensures) }
 
 pub shape_of-stack : goal.shape_of-stack
 shape_of-stack c = c.stack-1.given ∙ length-set c.args.stack.now 0 _

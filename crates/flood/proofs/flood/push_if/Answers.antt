@@ -12,7 +12,7 @@ pub cell_at-requires : goal.cell_at-requires
 cell_at-requires c = let p = c.requires.less_le_k c.if-there.true in omega arith
 
 pub returns-then-there : goal.returns-then-there
-returns-then-there c = record { stack_after = push_new _ _ _ c.args.there _ c.requires.len_in_bounds c.if-there.true _ (c.number_of.ensures ∙ c.cell_at.ensures); upper_bound = omega arith; }
+returns-then-there c = record { stack_after = push_new _ _ _ c.args.there _ c.requires.len_in_bounds c.if-there.true _ (c.number_of.ensures ∙ c.cell_at.ensures); upper_bound = omega arith }
 
 pub returns : goal.returns
-returns c = record { stack_after = push_old _ _ _ c.args.there _ c.if-there.false; upper_bound = omega arith; }
+returns c = record { stack_after = push_old _ _ _ c.args.there _ c.if-there.false; upper_bound = omega arith }

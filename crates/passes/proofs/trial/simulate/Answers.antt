@@ -71,7 +71,7 @@ pub advance-t-requires : goal.advance-t-requires
 advance-t-requires c = record { tables = c.requires.tables; fit = fit_of_lem _ _ _ _ _ _ c.requires.usable (safe_spent _ _ _ _ (all-safe (goal.at.advance-t-requires c).At-loop-k)); points_in_bounds = room_then _ _ _ ((all-safe (goal.at.advance-t-requires c).At-loop-k).out-long ∙ out-same (goal.at.advance-t-requires c).At-outer) c.if-room-kept-2.false }
 
 pub overflow_step-k : goal.overflow_step-k
-overflow_step-k c = omega (arith, c.loop-k-test.true, c.leg_at-leg.type-inv)
+overflow_step-k c = omega (arith, c.loop-k-test.true)
 
 pub loop-k-smaller : goal.loop-k-smaller
 loop-k-smaller c = omega (arith, c.loop-k-test.true)
@@ -115,7 +115,7 @@ pub shape_of-triples-in_default : goal.shape_of-triples-in_default
 shape_of-triples-in_default c = (all-safe (goal.at.shape_of-triples-in_default c).At-loop-k).out-long ∙ out-same (goal.at.shape_of-triples-in_default c).At-outer
 
 pub returns-in_default : goal.returns-in_default
-returns-in_default c = leaves (goal.at.returns-in_default c).At-loop-k _ (turn-none _ _ _ _ _ _ _ c.max_shift-most.ensures _ _ c.sample-at.ensures c.find_shift-f.ensures c.in_default.is)
+returns-in_default c = leaves (goal.at.returns-in_default c).In-loop-k _ (turn-none _ _ _ _ _ _ _ c.max_shift-most.ensures _ _ c.sample-at.ensures c.find_shift-f.ensures c.in_default.is)
 
 pub shape_of-map-then-gap : goal.shape_of-map-then-gap
 shape_of-map-then-gap c = (all-safe (goal.at.shape_of-map-then-gap c).At-loop-k).cells-long

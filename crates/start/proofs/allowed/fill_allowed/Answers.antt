@@ -40,7 +40,7 @@ pub cell_at-c-requires : goal.cell_at-c-requires
 cell_at-c-requires c = omega (arith, c.loop-k-test.true, c.cells-n.ensures, c.requires.placed.sides.cells)
 
 pub block_of-block-requires : goal.block_of-block-requires
-block_of-block-requires c = record { placed = c.requires.placed; plain = c.is_plain-plain.ensures; told = subst (λ z. Told c.args.s c.args.vs.now c.args.lens.now z c.loop-k.block) (sym c.cell_at-c.ensures) c.loop-k.invariant.1; }
+block_of-block-requires c = record { placed = c.requires.placed; plain = c.is_plain-plain.ensures; told = subst (λ z. Told c.args.s c.args.vs.now c.args.lens.now z c.loop-k.block) (sym c.cell_at-c.ensures) c.loop-k.invariant.1 }
 
 pub overflow_add-i : goal.overflow_add-i
 overflow_add-i c = omega (arith, c.loop-k-test.true, c.inside-i.ensures, c.cells-n.ensures, c.requires.placed.sides.cells)
@@ -55,7 +55,7 @@ pub bounds-w-k : goal.bounds-w-k
 bounds-w-k c = omega (arith, c.loop-k-test.true, c.cells-n.ensures, c.requires.s_in_bounds_2)
 
 pub may_be-requires : goal.may_be-requires
-may_be-requires c = record { placed = c.requires.placed; known = known_is c.args.s c.args.vs.now c.args.lens.now c.requires.placed.sides c.args.b.now c.requires.b_value _ _ _ _ c.cells-n.ensures c.loop-k-test.true c.cell_at-c.ensures (byte (goal.at.may_be-requires c).In-loop-k) _ c.block_of-block.ensures.0 c.block_of-block.ensures.1; }
+may_be-requires c = record { placed = c.requires.placed; known = known_is c.args.s c.args.vs.now c.args.lens.now c.requires.placed.sides c.args.b.now c.requires.b_value _ _ _ _ c.cells-n.ensures c.loop-k-test.true c.cell_at-c.ensures (byte (goal.at.may_be-requires c).In-loop-k) _ c.block_of-block.ensures.0 c.block_of-block.ensures.1 }
 
 pub overflow_add-b : goal.overflow_add-b
 overflow_add-b c = omega (arith, c.loop-k-test.true, c.allowed-a.ensures, c.cells-n.ensures, c.requires.placed.sides.cells)
@@ -70,7 +70,7 @@ pub loop-k-smaller : goal.loop-k-smaller
 loop-k-smaller c = omega (arith, c.loop-k-test.true)
 
 pub loop-k-preserved : goal.loop-k-preserved
-loop-k-preserved c =    let l = c.loop-k in
+loop-k-preserved c = let l = c.loop-k in
     let n = c.cells-n.result in
     let t = c.loop-k-test.true in
     let k = c.cell_at-c.ensures in (

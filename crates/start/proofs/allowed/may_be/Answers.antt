@@ -12,7 +12,7 @@ pub returns-then-wall-s : goal.returns-then-wall-s
 returns-then-wall-s c = may_wall _ _ _ _ _ _ c.if-inside-ne1.false c.if-wall-s.true
 
 pub is_clear-requires : goal.is_clear-requires
-is_clear-requires c = record { placed = c.requires.placed; known = subst (λ z. Known c.args.s c.args.vs.now c.args.lens.now c.args.c.0 z c.args.apart) c.if-inside-ne1.false c.requires.known; }
+is_clear-requires c = record { placed = c.requires.placed; known = subst (λ z. Known c.args.s c.args.vs.now c.args.lens.now c.args.c.0 z c.args.apart) c.if-inside-ne1.false c.requires.known }
 
 pub returns-then-is_clear : goal.returns-then-is_clear
 returns-then-is_clear c = may_clear _ _ _ _ _ _ c.if-inside-ne1.false c.if-wall-s.false true (sym c.if-is_clear.true ∙ c.is_clear.ensures)

@@ -4,7 +4,7 @@ use borrow.Author.Rules.{rules}
 use Rattle.start.proofs.blocks.block_of.Goals as goal
 
 pub block_at-requires : goal.block_at-requires
-block_at-requires c = record { placed = c.requires.placed; plain = c.requires.plain c.if-plain.true; }
+block_at-requires c = record { placed = c.requires.placed; plain = c.requires.plain c.if-plain.true }
 
 pub returns-then-plain : goal.returns-then-plain
 returns-then-plain c = (c.block_at.ensures.0, λ t. c.block_at.ensures.1)

@@ -5,7 +5,7 @@ use borrow.Author.Rules.{rules}
 use Rattle.start.proofs.blocks.is_plain.Goals as goal
 
 pub returns : goal.returns
-returns c =    λ t.
+returns c = λ t.
     let p = both _ _ t in
     let q = both _ _ p.0 in
     let o = both _ _ q.0 in

@@ -8,10 +8,10 @@ use Rattle.start.proofs.ReachLaws.{reach-is, map-sides, squares-room}
 use Rattle.start.proofs.reach.fill_reach.Goals as goal
 
 pub transform-requires : goal.transform-requires
-transform-requires c = record { map_sides = map-sides c.args.s.grid c.requires.sides; nx_in_bounds = omega (arith, c.requires.s_in_bounds, c.cells-n.ensures, part_long 1 _ _ _ c.args.b.now c.allowed-a.ensures refl (omega (arith, c.requires.s_in_bounds, c.cells-n.ensures))); nx_in_bounds_2 = squares-room c.args.s.grid c.requires.sides c.args.u.now c.requires.s_in_bounds_2; }
+transform-requires c = record { map_sides = map-sides c.args.s.grid c.requires.sides; nx_in_bounds = omega (arith, c.requires.s_in_bounds, c.cells-n.ensures, part_long 1 _ _ _ c.args.b.now c.allowed-a.ensures refl (omega (arith, c.requires.s_in_bounds, c.cells-n.ensures))); nx_in_bounds_2 = squares-room c.args.s.grid c.requires.sides c.args.u.now c.requires.s_in_bounds_2 }
 
 pub mark_near-requires : goal.mark_near-requires
-mark_near-requires c =     let n = c.cells-n.ensures in record { n_le_most = omega (arith, n, c.requires.sides.cells); limit_of = c.limit_of.ensures; n_in_bounds = omega (arith, n, c.requires.s_in_bounds_2, transform_long 1 _ _ _ c.args.u.now _ (squares-room c.args.s.grid c.requires.sides c.args.u.now c.requires.s_in_bounds_2) c.transform.ensures.work_after); n_in_bounds_2 = omega (arith, n, c.requires.s_in_bounds); }
+mark_near-requires c = let n = c.cells-n.ensures in record { n_le_most = omega (arith, n, c.requires.sides.cells); limit_of = c.limit_of.ensures; n_in_bounds = omega (arith, n, c.requires.s_in_bounds_2, transform_long 1 _ _ _ c.args.u.now _ (squares-room c.args.s.grid c.requires.sides c.args.u.now c.requires.s_in_bounds_2) c.transform.ensures.work_after); n_in_bounds_2 = omega (arith, n, c.requires.s_in_bounds) }
 
 pub returns : goal.returns
-returns c =    reach-is c.args.s c.args.b.now c.args.u.now _ _ _ c.cells-n.ensures c.allowed-a.ensures c.transform.ensures.work_after _ c.mark_near.ensures
+returns c = reach-is c.args.s c.args.b.now c.args.u.now _ _ _ c.cells-n.ensures c.allowed-a.ensures c.transform.ensures.work_after _ c.mark_near.ensures

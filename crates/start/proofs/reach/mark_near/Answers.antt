@@ -47,7 +47,7 @@ pub loop-k-smaller : goal.loop-k-smaller
 loop-k-smaller c = omega (arith, c.loop-k-test.true)
 
 pub loop-k-preserved : goal.loop-k-preserved
-loop-k-preserved c =    let l = c.loop-k in
+loop-k-preserved c = let l = c.loop-k in
     let t = c.loop-k-test.true in
     going_more _ _ _ _ _ _ _ l.invariant t
     (ap (set l.b (c.reach-a.result + l.k)) (near-turn c.args.t c.args.n _ c.args.squares.now c.args.b.now l.b c.requires.n_in_bounds_2 c.reach-a.ensures (only (goal.at.loop-k-preserved c).At-loop-k) l.k _ t c.near_byte.ensures))

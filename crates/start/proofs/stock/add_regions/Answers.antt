@@ -26,10 +26,10 @@ this : (c : After-size-loops) → let s = c.args in region c.loop-k.at c.loop-k.
 this c = let s = c.args in let i = c.loop-k.invariant in region-is s.lens.now s.regions.now c.loop-k.k _ _ _ i.start i.loop c.size-loops.ensures
 
 pub end_of-at-requires : goal.end_of-at-requires
-end_of-at-requires c =     let h = held-is c.args.vs.now c.args.lens.now c.args.regions.now c.requires.all_held 0 c.requires.all_held.some c.args.pocket c.requires.pocket_value in record { loops_in_bounds = h.sizes; loops_bound = omega (arith, h.vertices); }
+end_of-at-requires c = let h = held-is c.args.vs.now c.args.lens.now c.args.regions.now c.requires.all_held 0 c.requires.all_held.some c.args.pocket c.requires.pocket_value in record { loops_in_bounds = h.sizes; loops_bound = omega (arith, h.vertices) }
 
 pub loop-k-init : goal.loop-k-init
-loop-k-init c =    let p = c.requires.pocket_value in
+loop-k-init c = let p = c.requires.pocket_value in
     record {
       going = going_none _ _ _ _;
       long = refl;
@@ -41,14 +41,14 @@ pub size-loops-requires : goal.size-loops-requires
 size-loops-requires c = c.loop-k-test.true
 
 pub fill_region-requires : goal.fill_region-requires
-fill_region-requires c =     let i = c.loop-k.invariant in
-    let t = c.loop-k-test.true in record { over = record { sides = c.requires.over.sides; long = omega (arith, c.requires.over.long, map-long (goal.at.fill_region-requires c).At-loop-k) }; held = held-is c.args.vs.now c.args.lens.now c.args.regions.now c.requires.all_held _ t _ (this (goal.at.fill_region-requires c).After-size-loops); nx_in_bounds = omega (arith, c.requires.over.sides.columns, i.long, c.requires.in_bounds); }
+fill_region-requires c = let i = c.loop-k.invariant in
+    let t = c.loop-k-test.true in record { over = record { sides = c.requires.over.sides; long = omega (arith, c.requires.over.long, map-long (goal.at.fill_region-requires c).At-loop-k) }; held = held-is c.args.vs.now c.args.lens.now c.args.regions.now c.requires.all_held _ t _ (this (goal.at.fill_region-requires c).After-size-loops); nx_in_bounds = omega (arith, c.requires.over.sides.columns, i.long, c.requires.in_bounds) }
 
 pub end_of-at-requires-in-loop-k : goal.end_of-at-requires-in-loop-k
-end_of-at-requires-in-loop-k c =     let h = held-is c.args.vs.now c.args.lens.now c.args.regions.now c.requires.all_held _ c.loop-k-test.true _ (this (goal.at.end_of-at-requires-in-loop-k c).After-size-loops) in record { loops_in_bounds = h.sizes; loops_bound = omega (arith, h.vertices); }
+end_of-at-requires-in-loop-k c = let h = held-is c.args.vs.now c.args.lens.now c.args.regions.now c.requires.all_held _ c.loop-k-test.true _ (this (goal.at.end_of-at-requires-in-loop-k c).After-size-loops) in record { loops_in_bounds = h.sizes; loops_bound = omega (arith, h.vertices) }
 
 pub overflow_add-first : goal.overflow_add-first
-overflow_add-first c =    omega (arith, (held-is c.args.vs.now c.args.lens.now c.args.regions.now c.requires.all_held _ c.loop-k-test.true _ (this (goal.at.overflow_add-first c).After-size-loops)).sizes)
+overflow_add-first c = omega (arith, (held-is c.args.vs.now c.args.lens.now c.args.regions.now c.requires.all_held _ c.loop-k-test.true _ (this (goal.at.overflow_add-first c).After-size-loops)).sizes)
 
 pub overflow_step-k : goal.overflow_step-k
 overflow_step-k c = omega (arith, c.loop-k-test.true)
@@ -58,7 +58,7 @@ loop-k-smaller c = omega (arith, c.loop-k-test.true)
 
 pub loop-k-preserved : goal.loop-k-preserved
 unfolding add_region
-loop-k-preserved c =    let s = c.args in
+loop-k-preserved c = let s = c.args in
     let l = c.loop-k in
     let r = this (goal.at.loop-k-preserved c).After-size-loops in
     record {

@@ -22,7 +22,7 @@ pub size-at-requires : goal.size-at-requires
 size-at-requires c = omega (arith, c.requires.loops_in_bounds, c.loop-l-test.true)
 
 pub overflow_add-at : goal.overflow_add-at
-overflow_add-at c =    omega (arith, at-is (goal.at.overflow_add-at c).At-loop-l, c.size-at.ensures, c.requires.loops_bound, loop-within c.args.lens.now c.args.r c.loop-l.l c.loop-l-test.true)
+overflow_add-at c = omega (arith, at-is (goal.at.overflow_add-at c).At-loop-l, c.size-at.ensures, c.requires.loops_bound, loop-within c.args.lens.now c.args.r c.loop-l.l c.loop-l-test.true)
 
 pub overflow_step-l : goal.overflow_step-l
 overflow_step-l c = omega (arith, c.loop-l-test.true)

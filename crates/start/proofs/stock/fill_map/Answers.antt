@@ -46,7 +46,7 @@ pub loop-k-smaller : goal.loop-k-smaller
 loop-k-smaller c = omega (arith, c.loop-k-test.true)
 
 pub loop-k-preserved : goal.loop-k-preserved
-loop-k-preserved c =    let l = c.loop-k in
+loop-k-preserved c = let l = c.loop-k in
     going_more _ _ _ _ _ _ _ l.invariant c.loop-k-test.true
     (map-turn c.args.whole c.args.n _ _ c.args.b.now l.b c.requires.n_in_bounds c.inside-i.ensures c.abandoned-a.ensures (only (goal.at.loop-k-preserved c).At-loop-k) l.k _ c.loop-k-test.true c.stock_byte.ensures)
 

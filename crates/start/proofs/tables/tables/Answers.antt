@@ -4,5 +4,5 @@ use borrow.Author.Rules.{rules}
 use Rattle.start.proofs.tables.tables.Goals as goal
 
 pub returns : goal.returns
-returns c =    tabled_is c.args.s c.args.w.now _ _ _ c.cells-n.ensures c.rim-a.ensures
+returns c = tabled_is c.args.s c.args.w.now _ _ _ c.cells-n.ensures c.rim-a.ensures
     c.tables_end-e.ensures c.requires.s_in_bounds _ c.fill.auto.w c.fill.ensures

@@ -30,7 +30,7 @@ pub bounds-wall-k : goal.bounds-wall-k
 bounds-wall-k c = omega (arith, long (goal.at.bounds-wall-k c).At-loop-k, c.loop-k-test.true)
 
 pub loop-k-preserved : goal.loop-k-preserved
-loop-k-preserved c =    let l = c.loop-k in
+loop-k-preserved c = let l = c.loop-k in
     let s = c.args in
     going_more _ _ _ _ _ _ _ l.invariant c.loop-k-test.true (ap (λ z. set l.wall l.k (mul binary64 z s.cell)) c.distance_of.ensures)
 

@@ -9,11 +9,14 @@ use borrow.Author.Rules.{rules}
 use Rattle.tracing.proofs.round.curves.Goals as goal
 
 pub smooth-requires : goal.smooth-requires
-smooth-requires c = 
+smooth-requires c =
     let r = smooth_asks c.args.s _ _ _ c.requires.sides c.requires.room _ _ _ _ _ _ c.trace-c.ensures.laying c.trace-c.ensures.beside _ c.cells-n.ensures in
-    record { n_le_most = r.0; n_in_bounds = r.1.0; n_in_bounds_2 = r.1.1.0; lying = r.1.1.1.0; laid = r.1.1.1.1; }
+    record { n_le_most = r.0; n_in_bounds = r.1.0; n_in_bounds_2 = r.1.1.0; lying = r.1.1.1.0; laid = r.1.1.1.1 }
 
 pub returns : goal.returns
-returns c =     let N = c.cells-n.ensures in
-    let s = c.args.s in record { lies = subst (λ (l : List Piece). Lies (cells_of s) l c.trace-c.result.pieces c.smooth.new.u c.smooth.new.w) (curves_are s _ _ _ _ N c.level.ensures refl)
-          (curves_lie s _ _ _ c.requires.sides c.requires.room _ _ _ _ _ _ c.trace-c.ensures.laying c.trace-c.ensures.beside _ N _ _ _ c.smooth.ensures.only c.smooth.ensures.only_2 c.smooth.ensures.lies); beside = curves_beside s _ _ _ c.requires.sides c.requires.room _ _ _ _ _ _ c.trace-c.ensures.laying c.trace-c.ensures.beside _ N s.grid.cell _ _ c.smooth.ensures.only c.smooth.ensures.only_2; }
+returns c = let N = c.cells-n.ensures in
+    let s = c.args.s in record {
+      lies = subst (λ (l : List Piece). Lies (cells_of s) l c.trace-c.result.pieces c.smooth.new.u c.smooth.new.w) (curves_are s _ _ _ _ N c.level.ensures refl)
+          (curves_lie s _ _ _ c.requires.sides c.requires.room _ _ _ _ _ _ c.trace-c.ensures.laying c.trace-c.ensures.beside _ N _ _ _ c.smooth.ensures.only c.smooth.ensures.only_2 c.smooth.ensures.lies);
+      beside = curves_beside s _ _ _ c.requires.sides c.requires.room _ _ _ _ _ _ c.trace-c.ensures.laying c.trace-c.ensures.beside _ N s.grid.cell _ _ c.smooth.ensures.only c.smooth.ensures.only_2;
+    }

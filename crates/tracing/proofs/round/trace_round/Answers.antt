@@ -6,8 +6,8 @@ use borrow.Author.Rules.{rules}
 use Rattle.tracing.proofs.round.trace_round.Goals as goal
 
 pub overflow_mul-result : goal.overflow_mul-result
-overflow_mul-result c =    let z = work-fits c.args.s _ _ _ _ _ c.requires _ c.field-sampled.ensures.sampled in
+overflow_mul-result c = let z = work-fits c.args.s _ _ _ _ _ c.requires _ c.field-sampled.ensures.sampled in
     omega arith
 
 pub returns : goal.returns
-returns c =    round_traced c.args.s _ _ _ _ _ c.requires _ _ _ _ c.field-sampled.ensures _ _ _ _ c.curves-pieces.ensures.lies c.curves-pieces.ensures.beside _ refl refl
+returns c = round_traced c.args.s _ _ _ _ _ c.requires _ _ _ _ c.field-sampled.ensures _ _ _ _ c.curves-pieces.ensures.lies c.curves-pieces.ensures.beside _ refl refl
