@@ -12,7 +12,7 @@ stock-requires c = let room = c.requires.room in record { sides = c.requires.sid
 
 pub reach-requires : goal.reach-requires
 reach-requires c = let room = c.requires.room in
-    let k = c.stock.auto.b in record { placed = record { sides = c.requires.sides; held = held-is c.args.vs.now c.args.lens.now c.args.regions.now c.requires.all_held 0 c.requires.all_held.some _ c.requires.region_value; bound = c.requires.bounds }; room = record { bytes = omega (arith, room.bytes, k.0); words = room.words; doubles = omega (arith, room.doubles, k.1.0) }; b_value = c.stock.ensures.inside ∙ ap (inside_of c.args.s.grid c.args.vs.now c.args.lens.now) (sym c.requires.region_value) }
+    record { placed = record { sides = c.requires.sides; held = held-is c.args.vs.now c.args.lens.now c.args.regions.now c.requires.all_held 0 c.requires.all_held.some _ c.requires.region_value; bound = c.requires.bounds }; room = record { bytes = omega (arith, room.bytes, c.stock.auto.b); words = room.words; doubles = omega (arith, room.doubles, c.stock.auto.w) }; b_value = c.stock.ensures.inside ∙ ap (inside_of c.args.s.grid c.args.vs.now c.args.lens.now) (sym c.requires.region_value) }
 
 pub tables-requires : goal.tables-requires
 tables-requires c = record { sides = c.requires.sides; samples_bound = c.requires.samples_bound; s_in_bounds = omega (arith, c.requires.room.doubles, c.stock.auto.w, c.reach.auto.w) }
@@ -21,9 +21,8 @@ pub clear_log-requires : goal.clear_log-requires
 clear_log-requires c = record { sides = c.requires.sides; nx_in_bounds = omega (arith, c.requires.room.words, c.reach.auto.u) }
 
 pub returns : goal.returns
-returns c = let k = c.stock.auto.b in
-    let l = c.reach.auto.b in
+returns c =
     started-is c.args.s c.args.whole c.args.vs.now c.args.lens.now c.args.regions.now c.args.b.now c.args.u.now c.args.w.now c.requires.sides
     (held-is c.args.vs.now c.args.lens.now c.args.regions.now c.requires.all_held 0 c.requires.all_held.some _ c.requires.region_value) c.requires.bounds c.requires.room
     _ _ _ _ _ c.stock.ensures c.reach.ensures c.tables.ensures c.clear_log.ensures
-    (l.0 ∙ k.0) (c.clear_log.auto.u ∙ l.1.0) (c.tables.auto.w ∙ l.1.1.0 ∙ k.1.0)
+    (c.reach.auto.b ∙ c.stock.auto.b) (c.clear_log.auto.u ∙ c.reach.auto.u) (c.tables.auto.w ∙ c.reach.auto.w ∙ c.stock.auto.w)

@@ -24,7 +24,7 @@ returns-in-Worth c =
     record { result_after = r.0; settled = r.1.0; behind = r.1.1.0; only = r.1.1.1 }
 
 pub shape_of-b-in-Worth : goal.shape_of-b-in-Worth
-shape_of-b-in-Worth c = (returns-2 (goal.at.shape_of-b-in-Worth c).After-slice_known-in-Worth-5-1).1.0.long
+shape_of-b-in-Worth c = (returns-in-Worth c).settled.long
 
 pub returns-in-Nothing : goal.returns-in-Nothing
 returns-in-Nothing c =
