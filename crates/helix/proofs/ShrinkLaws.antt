@@ -2,17 +2,19 @@
 -- Assumes nothing.
 use mathlib.Core.Path.{◌≡◌, refl, sym, ap, ◌∙◌, subst}
 use mathlib.Core.Bool.{Bool, true, false, cond}
+use Rattle.std.proofs.Common.{T, pos}
 use mathlib.Core.List.{List}
 use mathlib.Core.Option.{Option, none, some}
 use Prim.Native.Nat.{ℕ, zero, suc, ◌+◌}
 use native.Mathlib.Omega.{arith}
-use lib.Ieee.{Float, binary64, of_bits, round, sub, mul, lt, le, eq, is_nan}
+use lib.Ieee.Scale.{finite}
+use lib.Ieee.{Float, fin, binary64, of_bits, round, sub, mul, lt, le, eq, is_nan}
 use Rattle.loops.specs.Loop.{loop, Run, on, out, turn, any}
 use Rattle.loops.proofs.Cases.{by_cases, by_test, never}
 use Rattle.loops.proofs.LoopLaws.{loop_more, loop_both, out_stays}
 use Rattle.floats.proofs.OrderLaws.{le_lt, le_le, lt_le, lt_to_le, le_numbers, lt_not_le}
 use Rattle.floats.proofs.MulMono.{mul_mono}
-use Rattle.floats.proofs.NumberLaws.{scale_number}
+use Rattle.floats.proofs.NumberLaws.{nonzero, scale_number}
 use Rattle.floats.proofs.SwapLaws.{mul_swap}
 use Rattle.geom.specs.declared.vec2.Vec2.{Vec2}
 use Rattle.numbers.specs.Order.{min_of}
@@ -86,18 +88,55 @@ fifth = mul binary64 c01 f2
 
 -- ---- for the jobs that the questions accept: a diameter of at least 0.1, a preferred radius of at most 1,000
 
+-- what is closed of it is worked out by itself
+half_up : le (fin false 0 (pos 0)) half ≡ true
+unfolding of_bits le
+half_up = refl
+
+fifth_up : le (fin false 0 (pos 0)) fifth ≡ true
+unfolding of_bits round mul le
+fifth_up = refl
+
+half_finite : T (finite half)
+unfolding of_bits
+half_finite = tt
+
+half_nonzero : T (nonzero half)
+unfolding of_bits
+half_nonzero = tt
+
+fifth_finite : T (finite fifth)
+unfolding of_bits round mul
+fifth_finite = tt
+
+fifth_nonzero : T (nonzero fifth)
+unfolding of_bits round mul
+fifth_nonzero = tt
+
+tenth_half : is_nan (mul binary64 c01 half) ≡ false
+unfolding of_bits round mul is_nan
+tenth_half = refl
+
+tenth_fifth : is_nan (mul binary64 (mul binary64 c01 half) fifth) ≡ false
+unfolding of_bits round mul is_nan
+tenth_fifth = refl
+
+hundredth_le : le hundredth (mul binary64 fifth (mul binary64 c01 half)) ≡ true
+unfolding of_bits round mul le
+hundredth_le = refl
+
 least-high : (s : Setup) (diameter : Float) → s.r ≡ mul binary64 diameter half → le c01 diameter ≡ true → lt (after_shrinks 52) (least_of s) ≡ true
-unfolding least_of of_bits round mul le lt eq is_nan
+unfolding least_of
 least-high s diameter e h =
     subst (λ (r : Float). lt (after_shrinks 52) (mul binary64 fifth r) ≡ true) (sym e)
     (lt_le (after_shrinks 52) hundredth (mul binary64 fifth (mul binary64 diameter half)) small
-    (le_le hundredth (mul binary64 fifth (mul binary64 c01 half)) (mul binary64 fifth (mul binary64 diameter half)) refl
-    (subst (λ (x : Float). le (mul binary64 fifth (mul binary64 c01 half)) x ≡ true) (mul_swap binary64 (mul binary64 diameter half) fifth)
-    (mul_mono binary64 (mul binary64 c01 half) (mul binary64 diameter half) fifth refl
-    (mul_mono binary64 c01 diameter half refl h refl number) refl (scale_number binary64 (mul binary64 diameter half) fifth number tt tt)))))
+    (le_le hundredth (mul binary64 fifth (mul binary64 c01 half)) (mul binary64 fifth (mul binary64 diameter half)) hundredth_le
+    (rw (mul_swap binary64 fifth (mul binary64 c01 half), mul_swap binary64 fifth (mul binary64 diameter half))
+    (mul_mono binary64 (mul binary64 c01 half) (mul binary64 diameter half) fifth fifth_up
+    (mul_mono binary64 c01 diameter half half_up h tenth_half number) tenth_fifth (scale_number binary64 (mul binary64 diameter half) fifth number fifth_finite fifth_nonzero)))))
   where
     number : is_nan (mul binary64 diameter half) ≡ false
-    number = scale_number binary64 diameter half (le_numbers c01 diameter h).1 tt tt
+    number = scale_number binary64 diameter half (le_numbers c01 diameter h).1 half_finite half_nonzero
 
 widest-low : (s : Setup) (pref d : Float) → le pref f1000 ≡ true → le (widest_of s pref d) f1000 ≡ true
 unfolding widest_of min_of

@@ -4,21 +4,21 @@ use borrow.Author.Rules.{rules}
 use Rattle.helix.proofs.enter.enter.Goals as goal
 
 pub find-f-requires : goal.find-f-requires
-find-f-requires c = 
+find-f-requires c =
     let r = find_asks c.args.s c.args.t c.args.vs.now c.args.lens.now c.args.pref c.args.b.now c.args.u.now c.args.w.now c.args.triples.now c.args.rows.now c.requires.standing _ c.before-2.ensures _ c.segments-end.ensures in
-    record { walls = r.0; s_in_bounds = r.1.0; s_in_bounds_2 = r.1.1; }
+    record { walls = r.0; s_in_bounds = r.1.0; s_in_bounds_2 = r.1.1 }
 
 pub bore-requires : goal.bore-requires
-bore-requires c = 
+bore-requires c =
     let r = bore_asks c.args.s c.args.t c.args.vs.now c.args.lens.now c.args.pref c.args.b.now c.args.u.now c.args.w.now c.args.triples.now c.args.rows.now c.requires.standing _ c.before-2.ensures _ c.segments-end.ensures _ c.find-f.ensures.value _ c.find-f.ensures.b_after c.requires.listed in
-    record { sides = r.0; s_in_bounds = r.1.0; listed = r.1.1; }
+    record { sides = r.0; s_in_bounds = r.1.0; listed = r.1.1 }
 
 pub returns-in-Nothing : goal.returns-in-Nothing
-returns-in-Nothing c = 
+returns-in-Nothing c =
     let r = enter_none c.args.s c.args.t c.args.vs.now c.args.lens.now c.args.pref c.args.b.now c.args.u.now c.args.w.now c.args.triples.now c.args.rows.now c.requires.standing _ c.before-2.ensures _ c.segments-end.ensures _ c.find-f.ensures.value _ c.find-f.ensures.b_after c.find-f.new.stack c.u-1.given.0 _ c.in-Nothing.is in
-    record { result_after = r.0; settled = r.1.0; only = r.1.1; }
+    record { result_after = r.0; settled = r.1.0; only = r.1.1 }
 
 pub returns-in-Helix : goal.returns-in-Helix
-returns-in-Helix c = 
+returns-in-Helix c =
     let r = enter_bored c.args.s c.args.t c.args.vs.now c.args.lens.now c.args.pref c.args.b.now c.args.u.now c.args.w.now c.args.triples.now c.args.rows.now c.requires.standing _ c.before-2.ensures _ c.segments-end.ensures _ c.find-f.ensures.value _ c.find-f.ensures.b_after c.find-f.new.stack c.u-1.given.0 _ _ _ c.in-Helix.is _ _ _ _ c.bore.ensures.result_after c.bore.ensures.only in
-    record { result_after = r.0; settled = r.1.0; only = r.1.1; }
+    record { result_after = r.0; settled = r.1.0; only = r.1.1 }

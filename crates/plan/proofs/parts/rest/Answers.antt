@@ -5,22 +5,22 @@ use borrow.Author.Rules.{rules}
 use Rattle.plan.proofs.parts.rest.Goals as goal
 
 pub cut_ring-a-requires : goal.cut_ring-a-requires
-cut_ring-a-requires c = record { standing = c.requires.standing; s_in_bounds = c.requires.s_in_bounds; listed = c.requires.listed; }
+cut_ring-a-requires c = record { standing = c.requires.standing; s_in_bounds = c.requires.s_in_bounds; listed = c.requires.listed }
 
 pub returns-in_default : goal.returns-in_default
-returns-in_default c = 
+returns-in_default c =
     let r = rest_leaves c.args.s c.args.vs.now c.args.lens.now c.args.pref c.args.p c.args.b.now c.args.u.now c.args.f.now c.args.w.now c.args.triples.now c.args.rows.now c.requires.standing c.requires.s_in_bounds _ _ _ _ _ _ _ c.cut_ring-a.ensures.kept (c.cut_ring-a.ensures.result_after c.args.pref) c.in_default.keys2 in
-    record { result_after = r.0; kept = r.1; }
+    record { result_after = r.0; kept = r.1 }
 
 pub enter-requires : goal.enter-requires
-enter-requires c = 
+enter-requires c =
     let r = rest_asks c.args.s c.args.vs.now c.args.lens.now c.args.pref c.args.p c.args.b.now c.args.u.now c.args.f.now c.args.w.now c.args.triples.now c.args.rows.now c.requires.standing c.requires.s_in_bounds _ _ _ _ _ _ _ c.cut_ring-a.ensures.kept (c.cut_ring-a.ensures.result_after c.args.pref) _ c.in-Next.is c.requires.given_bound in
-    record { standing = r.0; s_in_bounds = r.1.0; listed = r.1.1.0; given_bound = r.1.1.1; }
+    record { standing = r.0; s_in_bounds = r.1.0; listed = r.1.1.0; given_bound = r.1.1.1 }
 
 pub shape_of-b : goal.shape_of-b
 shape_of-b c = c.enter.ensures.kept.cells.long ∙ c.cut_ring-a.ensures.kept.cells.long
 
 pub returns : goal.returns
-returns c = 
+returns c =
     let r = rest_goes_on c.args.s c.args.vs.now c.args.lens.now c.args.pref c.args.p c.args.b.now c.args.u.now c.args.f.now c.args.w.now c.args.triples.now c.args.rows.now c.requires.standing c.requires.s_in_bounds _ _ _ _ _ _ _ c.cut_ring-a.ensures.kept (c.cut_ring-a.ensures.result_after c.args.pref) _ c.in-Next.is _ _ _ _ _ _ _ c.enter.ensures.result_after c.enter.ensures.kept in
-    record { result_after = r.0; kept = r.1; }
+    record { result_after = r.0; kept = r.1 }

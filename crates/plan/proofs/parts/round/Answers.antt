@@ -5,17 +5,17 @@ use borrow.Author.Rules.{rules}
 use Rattle.plan.proofs.parts.round.Goals as goal
 
 pub cut_pieces-a-requires : goal.cut_pieces-a-requires
-cut_pieces-a-requires c = record { standing = c.requires.standing; s_in_bounds = c.requires.s_in_bounds; listed = c.requires.listed; }
+cut_pieces-a-requires c = record { standing = c.requires.standing; s_in_bounds = c.requires.s_in_bounds; listed = c.requires.listed }
 
 pub returns-in_default : goal.returns-in_default
-returns-in_default c = 
+returns-in_default c =
     let r = round_leaves c.args.s c.args.vs.now c.args.lens.now c.args.pref c.args.p c.args.b.now c.args.u.now c.args.f.now c.args.w.now c.args.triples.now c.args.rows.now c.requires.standing c.requires.s_in_bounds _ _ _ _ _ _ _ c.cut_pieces-a.ensures.kept (c.cut_pieces-a.ensures.result_after c.args.pref) c.in_default.keys2 in
-    record { result_after = r.0; kept = r.1; }
+    record { result_after = r.0; kept = r.1 }
 
 pub rest-requires : goal.rest-requires
-rest-requires c = 
+rest-requires c =
     let r = round_asks c.args.s c.args.vs.now c.args.lens.now c.args.pref c.args.p c.args.b.now c.args.u.now c.args.f.now c.args.w.now c.args.triples.now c.args.rows.now c.requires.standing c.requires.s_in_bounds _ _ _ _ _ _ _ c.cut_pieces-a.ensures.kept (c.cut_pieces-a.ensures.result_after c.args.pref) _ c.in-Next.is c.requires.given_bound in
-    record { standing = r.0; s_in_bounds = r.1.0; listed = r.1.1.0; given_bound = r.1.1.1; }
+    record { standing = r.0; s_in_bounds = r.1.0; listed = r.1.1.0; given_bound = r.1.1.1 }
 
 pub shape_of-b : goal.shape_of-b
 shape_of-b c = c.rest.ensures.kept.cells.long ∙ c.cut_pieces-a.ensures.kept.cells.long
@@ -24,6 +24,6 @@ pub shape_of-u : goal.shape_of-u
 shape_of-u c = c.rest.ensures.kept.words_long ∙ c.cut_pieces-a.ensures.kept.words_long
 
 pub returns : goal.returns
-returns c = 
+returns c =
     let r = round_goes_on c.args.s c.args.vs.now c.args.lens.now c.args.pref c.args.p c.args.b.now c.args.u.now c.args.f.now c.args.w.now c.args.triples.now c.args.rows.now c.requires.standing c.requires.s_in_bounds _ _ _ _ _ _ _ c.cut_pieces-a.ensures.kept (c.cut_pieces-a.ensures.result_after c.args.pref) _ c.in-Next.is _ _ _ _ _ _ _ c.rest.ensures.result_after c.rest.ensures.kept in
-    record { result_after = r.0; kept = r.1; }
+    record { result_after = r.0; kept = r.1 }

@@ -28,14 +28,14 @@ pub shape_of-rows-then-p-gt-MAX_WORK : goal.shape_of-rows-then-p-gt-MAX_WORK
 shape_of-rows-then-p-gt-MAX_WORK c = c.loop-k.invariant.kept.rows_long
 
 pub returns-then-p-gt-MAX_WORK : goal.returns-then-p-gt-MAX_WORK
-returns-then-p-gt-MAX_WORK c = 
+returns-then-p-gt-MAX_WORK c =
     let r = plan_spent c.args.s c.args.vs.now c.args.lens.now c.args.pref c.args.b.now c.args.u.now c.args.f.now c.args.w.now c.args.triples.now c.args.rows.now c.requires.standing c.loop-k.b c.loop-k.u c.loop-k.f c.loop-k.w c.loop-k.triples c.loop-k.rows c.loop-k.p c.loop-k.k c.loop-k.invariant c.loop-k-test.true c.if-p-gt-MAX_WORK.true in
-    record { result_after = r.0; end_kept = r.1; }
+    record { result_after = r.0; end_kept = r.1 }
 
 pub round-a-requires : goal.round-a-requires
-round-a-requires c = 
+round-a-requires c =
     let r = round_asked c.args.s c.args.vs.now c.args.lens.now c.args.pref c.args.b.now c.args.u.now c.args.f.now c.args.w.now c.args.triples.now c.args.rows.now c.requires.standing c.loop-k.b c.loop-k.u c.loop-k.f c.loop-k.w c.loop-k.triples c.loop-k.rows c.loop-k.p c.loop-k.k c.loop-k.invariant c.requires.s_in_bounds c.loop-k-test.true in
-    record { standing = r.0; s_in_bounds = r.1.0; listed = r.1.1.0; given_bound = r.1.1.1; }
+    record { standing = r.0; s_in_bounds = r.1.0; listed = r.1.1.0; given_bound = r.1.1.1 }
 
 pub shape_of-b-in-Next : goal.shape_of-b-in-Next
 shape_of-b-in-Next c = c.round-a.ensures.kept.cells.long ∙ c.loop-k.invariant.kept.cells.long
@@ -56,9 +56,9 @@ pub shape_of-rows-in-Next : goal.shape_of-rows-in-Next
 shape_of-rows-in-Next c = c.round-a.ensures.kept.rows_long ∙ c.loop-k.invariant.kept.rows_long
 
 pub returns-in-Next : goal.returns-in-Next
-returns-in-Next c = 
+returns-in-Next c =
     let r = plan_next c.args.s c.args.vs.now c.args.lens.now c.args.pref c.args.b.now c.args.u.now c.args.f.now c.args.w.now c.args.triples.now c.args.rows.now c.requires.standing c.loop-k.b c.loop-k.u c.loop-k.f c.loop-k.w c.loop-k.triples c.loop-k.rows c.loop-k.p c.loop-k.k c.loop-k.invariant c.loop-k-test.true c.if-p-gt-MAX_WORK.false _ _ _ _ _ _ _ c.round-a.ensures.result_after c.round-a.ensures.kept _ c.in-Next.is in
-    record { result_after = r.0; end_kept = r.1; }
+    record { result_after = r.0; end_kept = r.1 }
 
 pub shape_of-b-in-Done : goal.shape_of-b-in-Done
 shape_of-b-in-Done c = c.round-a.ensures.kept.cells.long ∙ c.loop-k.invariant.kept.cells.long
@@ -79,9 +79,9 @@ pub shape_of-rows-in-Done : goal.shape_of-rows-in-Done
 shape_of-rows-in-Done c = c.round-a.ensures.kept.rows_long ∙ c.loop-k.invariant.kept.rows_long
 
 pub returns-in-Done : goal.returns-in-Done
-returns-in-Done c = 
+returns-in-Done c =
     let r = plan_done c.args.s c.args.vs.now c.args.lens.now c.args.pref c.args.b.now c.args.u.now c.args.f.now c.args.w.now c.args.triples.now c.args.rows.now c.requires.standing c.loop-k.b c.loop-k.u c.loop-k.f c.loop-k.w c.loop-k.triples c.loop-k.rows c.loop-k.p c.loop-k.k c.loop-k.invariant c.loop-k-test.true c.if-p-gt-MAX_WORK.false _ _ _ _ _ _ _ c.round-a.ensures.result_after c.round-a.ensures.kept _ c.in-Done.is in
-    record { result_after = r.0; end_kept = r.1; }
+    record { result_after = r.0; end_kept = r.1 }
 
 pub shape_of-b-in-Refused : goal.shape_of-b-in-Refused
 shape_of-b-in-Refused c = c.round-a.ensures.kept.cells.long ∙ c.loop-k.invariant.kept.cells.long
@@ -102,9 +102,9 @@ pub shape_of-rows-in-Refused : goal.shape_of-rows-in-Refused
 shape_of-rows-in-Refused c = c.round-a.ensures.kept.rows_long ∙ c.loop-k.invariant.kept.rows_long
 
 pub returns-in-Refused : goal.returns-in-Refused
-returns-in-Refused c = 
+returns-in-Refused c =
     let r = plan_refused c.args.s c.args.vs.now c.args.lens.now c.args.pref c.args.b.now c.args.u.now c.args.f.now c.args.w.now c.args.triples.now c.args.rows.now c.requires.standing c.loop-k.b c.loop-k.u c.loop-k.f c.loop-k.w c.loop-k.triples c.loop-k.rows c.loop-k.p c.loop-k.k c.loop-k.invariant c.loop-k-test.true c.if-p-gt-MAX_WORK.false _ _ _ _ _ _ _ c.round-a.ensures.result_after c.round-a.ensures.kept _ c.in-Refused.is in
-    record { result_after = r.0; end_kept = r.1; }
+    record { result_after = r.0; end_kept = r.1 }
 
 pub overflow_step-k : goal.overflow_step-k
 overflow_step-k c = omega (arith, c.loop-k-test.true)
@@ -134,6 +134,6 @@ pub shape_of-rows : goal.shape_of-rows
 shape_of-rows c = c.loop-k.invariant.kept.rows_long
 
 pub returns : goal.returns
-returns c = 
+returns c =
     let r = plan_ends c.args.s c.args.vs.now c.args.lens.now c.args.pref c.args.b.now c.args.u.now c.args.f.now c.args.w.now c.args.triples.now c.args.rows.now c.requires.standing c.loop-k.b c.loop-k.u c.loop-k.f c.loop-k.w c.loop-k.triples c.loop-k.rows c.loop-k.p c.loop-k.k c.loop-k.invariant c.loop-k-test.false in
-    record { result_after = r.0; end_kept = r.1; }
+    record { result_after = r.0; end_kept = r.1 }

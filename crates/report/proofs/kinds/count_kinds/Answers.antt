@@ -24,7 +24,7 @@ pub loop-k-smaller : goal.loop-k-smaller
 loop-k-smaller c = omega (arith, c.loop-k-test.true)
 
 pub loop-k-preserved : goal.loop-k-preserved
-loop-k-preserved c =    let l = c.loop-k in
+loop-k-preserved c = let l = c.loop-k in
     going_more _ _ _ _ _ _ _ l.invariant c.loop-k-test.true (c.add_kind-t.ensures ∙ ap (λ (q : Read). counting q l.t) c.read_row-c.ensures)
 
 pub returns : goal.returns

@@ -10,4 +10,4 @@ pub returns-then-is_nearer-2 : goal.returns-then-is_nearer-2
 returns-then-is_nearer-2 c = before-no _ _ _ c.is_nearer.ensures c.if-is_nearer.false _ c.is_nearer-2.ensures c.if-is_nearer-2.true
 
 pub returns : goal.returns
-returns c =    before_level _ _ _ c.is_nearer.ensures c.if-is_nearer.false _ c.is_nearer-2.ensures c.if-is_nearer-2.false _ c.ahead.ensures
+returns c = before_level _ _ _ c.is_nearer.ensures c.if-is_nearer.false _ c.is_nearer-2.ensures c.if-is_nearer-2.false _ c.ahead.ensures

@@ -11,21 +11,21 @@ pub loop-i-init : goal.loop-i-init
 loop-i-init c = nearest-none _ _ _ _ _ _ _ _ _ _ c.requires.standing c.requires.lying c.requires.listed
 
 pub take_nearest-p-requires : goal.take_nearest-p-requires
-take_nearest-p-requires c =  let C = c.loop-i.invariant in let p = words-ask _ _ _ _ _ _ C.standing in record { n_le_most = p.0; n_in_bounds = p.1.0; n_in_bounds_2 = p.1.1; lying = C.lies.lying; le_m = omega (arith, c.loop-i-test.true); }
+take_nearest-p-requires c = let C = c.loop-i.invariant in let p = words-ask _ _ _ _ _ _ C.standing in record { n_le_most = p.0; n_in_bounds = p.1.0; n_in_bounds_2 = p.1.1; lying = C.lies.lying; le_m = omega (arith, c.loop-i-test.true) }
 
 pub cut_next-c-requires : goal.cut_next-c-requires
-cut_next-c-requires c = 
+cut_next-c-requires c =
     let r = next_asks _ _ _ _ _ _ _ _ _ _ _ _ _ _ _ _ _ _ _ _ _ c.loop-i.invariant c.loop-i-test.true _ _ _ (nearest-taken _ _ _ _ _ _ _ _ _ _ _ _ _ _ _ _ _ _ c.loop-i-test.true c.loop-i.invariant _ _ c.take_nearest-p.ensures.value c.take_nearest-p.ensures.u_after) in
-    record { standing = r.0; traced = r.1.0; listed = r.1.1; }
+    record { standing = r.0; traced = r.1.0; listed = r.1.1 }
 
 pub returns-in-Refused : goal.returns-in-Refused
 unfolding cut_pieces_of
-returns-in-Refused c = 
+returns-in-Refused c =
     let r = cutting_stops _ _ _ _ _ _ _ _ _ _ _ _ _ _ _ _ _ _ _ _ _ c.loop-i.invariant c.loop-i-test.true _ _ _ (nearest-taken _ _ _ _ _ _ _ _ _ _ _ _ _ _ _ _ _ _ c.loop-i-test.true c.loop-i.invariant _ _ c.take_nearest-p.ensures.value c.take_nearest-p.ensures.u_after) _ _ _ _ _ _ c.cut_next-c.ensures.result_after c.cut_next-c.ensures.settled c.cut_next-c.ensures.behind c.cut_next-c.ensures.only _ c.in-Refused.is in
-    record { result_after = r.0; cells_kept = r.1.0; b_unchanged = r.1.1.0; u_len_unchanged = r.1.1.1.0; only = r.1.1.1.1.0; lists = r.1.1.1.1.1; }
+    record { result_after = r.0; cells_kept = r.1.0; b_unchanged = r.1.1.0; u_len_unchanged = r.1.1.1.0; only = r.1.1.1.1.0; lists = r.1.1.1.1.1 }
 
 pub shape_of-w-in-Refused : goal.shape_of-w-in-Refused
-shape_of-w-in-Refused c = (returns (goal.at.shape_of-w-in-Refused c).In-Refused).1.1.1.1.0.long
+shape_of-w-in-Refused c = (returns-in-Refused c).only.long
 
 pub overflow_step-i : goal.overflow_step-i
 overflow_step-i c = omega (arith, c.loop-i-test.true, c.requires.lying.few, c.requires.standing.sides.cells)
@@ -35,6 +35,6 @@ loop-i-preserved c = cutting_more _ _ _ _ _ _ _ _ _ _ _ _ _ _ _ _ _ _ _ _ _ c.lo
 
 pub returns : goal.returns
 unfolding cut_pieces_of
-returns c = 
+returns c =
     let r = cutting_ends _ _ _ _ _ _ _ _ _ _ _ _ _ _ _ _ _ _ _ _ _ c.loop-i.invariant c.loop-i-test.false in
-    record { result_after = r.0; cells_kept = r.1.0; b_unchanged = r.1.1.0; u_len_unchanged = r.1.1.1.0; only = r.1.1.1.1.0; lists = r.1.1.1.1.1; }
+    record { result_after = r.0; cells_kept = r.1.0; b_unchanged = r.1.1.0; u_len_unchanged = r.1.1.1.0; only = r.1.1.1.1.0; lists = r.1.1.1.1.1 }

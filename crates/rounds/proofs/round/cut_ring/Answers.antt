@@ -10,18 +10,18 @@ pub loop-i-init : goal.loop-i-init
 loop-i-init c = cutting_none _ _ _ _ _ _ _ _ _ _ in_order all_stay c.requires.standing c.requires.lying c.requires.listed
 
 pub read-p-requires : goal.read-p-requires
-read-p-requires c =  let C = c.loop-i.invariant in let p = words-ask _ _ _ _ _ _ C.standing in record { n_le_most = p.0; n_in_bounds = p.1.0; k_lt_n = omega (arith, c.loop-i-test.true, C.lies.lying.few); }
+read-p-requires c = let C = c.loop-i.invariant in let p = words-ask _ _ _ _ _ _ C.standing in record { n_le_most = p.0; n_in_bounds = p.1.0; k_lt_n = omega (arith, c.loop-i-test.true, C.lies.lying.few) }
 
 pub cut_next-c-requires : goal.cut_next-c-requires
-cut_next-c-requires c = 
+cut_next-c-requires c =
     let r = next_asks _ _ _ _ _ _ _ _ _ _ _ _ _ _ _ _ _ _ _ _ _ c.loop-i.invariant c.loop-i-test.true _ _ _ (ring_taken _ _ _ _ _ _ _ _ _ _ _ _ _ _ _ _ _ _ c.loop-i-test.true c.loop-i.invariant _ c.read-p.ensures) in
-    record { standing = r.0; traced = r.1.0; listed = r.1.1; }
+    record { standing = r.0; traced = r.1.0; listed = r.1.1 }
 
 pub returns-in-Refused : goal.returns-in-Refused
 unfolding cut_ring_of
-returns-in-Refused c = 
+returns-in-Refused c =
     let r = cutting_stops _ _ _ _ _ _ _ _ _ _ _ _ _ _ _ _ _ _ _ _ _ c.loop-i.invariant c.loop-i-test.true _ _ _ (ring_taken _ _ _ _ _ _ _ _ _ _ _ _ _ _ _ _ _ _ c.loop-i-test.true c.loop-i.invariant _ c.read-p.ensures) _ _ _ _ _ _ c.cut_next-c.ensures.result_after c.cut_next-c.ensures.settled c.cut_next-c.ensures.behind c.cut_next-c.ensures.only _ c.in-Refused.is in
-    record { result_after = r.0; cells_kept = r.1.0; b_unchanged = r.1.1.0; u_len_unchanged = r.1.1.1.0; only = r.1.1.1.1.0; lists = r.1.1.1.1.1; }
+    record { result_after = r.0; cells_kept = r.1.0; b_unchanged = r.1.1.0; u_len_unchanged = r.1.1.1.0; only = r.1.1.1.1.0; lists = r.1.1.1.1.1 }
 
 pub overflow_step-i : goal.overflow_step-i
 overflow_step-i c = let C = c.loop-i.invariant in omega (arith, c.loop-i-test.true, C.lies.lying.few, C.standing.sides.cells)
@@ -31,6 +31,6 @@ loop-i-preserved c = cutting_more _ _ _ _ _ _ _ _ _ _ _ _ _ _ _ _ _ _ _ _ _ c.lo
 
 pub returns : goal.returns
 unfolding cut_ring_of
-returns c = 
+returns c =
     let r = cutting_ends _ _ _ _ _ _ _ _ _ _ _ _ _ _ _ _ _ _ _ _ _ c.loop-i.invariant c.loop-i-test.false in
-    record { result_after = r.0; cells_kept = r.1.0; b_unchanged = r.1.1.0; u_len_unchanged = r.1.1.1.0; only = r.1.1.1.1.0; lists = r.1.1.1.1.1; }
+    record { result_after = r.0; cells_kept = r.1.0; b_unchanged = r.1.1.0; u_len_unchanged = r.1.1.1.0; only = r.1.1.1.1.0; lists = r.1.1.1.1.1 }

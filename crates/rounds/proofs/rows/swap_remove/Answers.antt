@@ -6,4 +6,4 @@ use borrow.Author.Rules.{rules}
 use Rattle.rounds.proofs.rows.swap_remove.Goals as goal
 
 pub returns : goal.returns
-returns c =  let a = c.args in record { value = c.row_at-r.ensures; rows_after = c.put_row.ensures ∙ ap (λ (r : Row). put_row a.k r a.rows.now) c.row_at-last.ensures; }
+returns c = let a = c.args in record { value = c.row_at-r.ensures; rows_after = c.put_row.ensures ∙ ap (λ (r : Row). put_row a.k r a.rows.now) c.row_at-last.ensures }
