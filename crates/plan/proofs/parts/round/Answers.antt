@@ -2,6 +2,7 @@
 use mathlib.Core.Path.{◌∙◌}
 use Rattle.plan.proofs.PartsLaws.{round_leaves, round_asks, round_goes_on}
 use borrow.Author.Rules.{rules}
+use borrow.Enum.Refused.{opened}
 use Rattle.plan.proofs.parts.round.Goals as goal
 
 pub cut_pieces-a-requires : goal.cut_pieces-a-requires
@@ -9,7 +10,7 @@ cut_pieces-a-requires c = record { standing = c.requires.standing; s_in_bounds =
 
 pub returns-in_default : goal.returns-in_default
 returns-in_default c =
-    let r = round_leaves c.args.s c.args.vs.now c.args.lens.now c.args.pref c.args.p c.args.b.now c.args.u.now c.args.f.now c.args.w.now c.args.triples.now c.args.rows.now c.requires.standing c.requires.s_in_bounds _ _ _ _ _ _ _ c.cut_pieces-a.ensures.kept (c.cut_pieces-a.ensures.result_after c.args.pref) c.in_default.keys2 in
+    let r = round_leaves c.args.s c.args.vs.now c.args.lens.now c.args.pref c.args.p c.args.b.now c.args.u.now c.args.f.now c.args.w.now c.args.triples.now c.args.rows.now c.requires.standing c.requires.s_in_bounds _ _ _ _ _ _ _ c.cut_pieces-a.ensures.kept (c.cut_pieces-a.ensures.result_after c.args.pref) (opened c.in_default.in_default-own.keys2) in
     record { result_after = r.0; kept = r.1 }
 
 pub rest-requires : goal.rest-requires

@@ -9,7 +9,7 @@ unfolding unentered
 returns-then-t-starting c = answer-unentered _ _ _ _ _ _ _ _ _ _ c.in-Finished.is c.if-t-starting.true
 
 pub report_of-requires : goal.report_of-requires
-report_of-requires c = record { sides = c.requires.sides; s_in_bounds = c.requires.s_in_bounds; rows_in_bounds = listed-rows _ _ _ _ _ c.in-Finished.is c.requires.listed_end; }
+report_of-requires c = record { sides = c.requires.sides; s_in_bounds = c.requires.s_in_bounds; rows_in_bounds = listed-rows _ _ _ _ _ c.in-Finished.is c.requires.listed_end }
 
 pub returns-in-Refused : goal.returns-in-Refused
 returns-in-Refused c = answer_stopped _ _ _ _ _ _ _ _ _ c.in-Refused.is
