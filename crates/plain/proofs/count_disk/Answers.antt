@@ -34,7 +34,7 @@ pub overflow_mul-j : goal.overflow_mul-j
 overflow_mul-j c = omega (arith, row_below _ _ _ _ (row (goal.at.overflow_mul-j c).In-loop-j) c.requires.long, c.well_formed)
 
 pub count_span-n-requires : goal.count_span-n-requires
-count_span-n-requires c = record { inside = in_map _ c.args.g.ny c.args.g.nx _ _ refl (row (goal.at.count_span-n-requires c).In-loop-j) c.requires.long c.chord-s.result (within (goal.at.count_span-n-requires c).After-chord-s); count_le_base = c.loop-j.invariant.1; }
+count_span-n-requires c = record { inside = in_map _ c.args.g.ny c.args.g.nx _ _ refl (row (goal.at.count_span-n-requires c).In-loop-j) c.requires.long c.chord-s.result (within (goal.at.count_span-n-requires c).After-chord-s); count_le_base = c.loop-j.invariant.1 }
 
 pub overflow_step-j : goal.overflow_step-j
 overflow_step-j c = omega (arith, row (goal.at.overflow_step-j c).In-loop-j, c.well_formed.0)

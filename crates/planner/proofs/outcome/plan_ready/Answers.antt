@@ -43,24 +43,6 @@ clear-requires c =
     c.cells-n.result c.cells-n.ensures c.answer_of-a.result c.used_by.result c.used_by.ensures c.requires.standing.bytes in
     record { cells_in_bounds = r.0; rows_in_bounds = r.1.0; triples_in_bounds = r.1.1 }
 
-pub shape_of-b : goal.shape_of-b
-shape_of-b c = BAD_x.b3.given ∙ c.b-2-1.given
-
-pub shape_of-u : goal.shape_of-u
-shape_of-u c = c.u-2-1.given ∙ c.u-1.given
-
-pub shape_of-f : goal.shape_of-f
-shape_of-f c = c.f-2-1.given ∙ c.f-1.given
-
-pub shape_of-w : goal.shape_of-w
-shape_of-w c = c.w-2-1.given ∙ c.w-1.given
-
-pub shape_of-rows : goal.shape_of-rows
-shape_of-rows c = BAD_x.rows3.given ∙ c.rows-1.given.1
-
-pub shape_of-triples : goal.shape_of-triples
-shape_of-triples c = BAD_x.triples3.given ∙ c.triples-1.given.1
-
 pub returns : goal.returns
 returns c = ready-outcome c.args.p c.args.s c.args.vs.now c.args.lens.now c.args.b.now c.args.u.now c.args.f.now c.args.w.now c.args.rows.now c.args.triples.now
     c.threes-r.result c.threes-t.result c.threes-r.ensures c.threes-t.ensures _ _ _ _ _ _ c.plan-e.result c.plan-e.ensures.end_kept
