@@ -4,6 +4,6 @@ use borrow.Author.Rules.{rules}
 use Rattle.pocket.proofs.adaptive.pocket_adaptive_clear.Goals as goal
 
 pub returns : goal.returns
-returns c =     let a = c.args in
+returns c = let a = c.args in
     let l = plan_told _ _ c.params_of-q.ensures _ a.vs.now a.lens.now a.regions.now _ _ _ c.adaptive_clear-a.ensures.result_after _ c.of_answer.ensures in
-    let t = plan_answered _ _ c.params_of-q.ensures _ a.vs.now a.lens.now a.regions.now _ _ _ c.adaptive_clear-a.ensures.result_after c.adaptive_clear-a.ensures.answer_told in record { result_after = l; answer_told = t; }
+    let t = plan_answered _ _ c.params_of-q.ensures _ a.vs.now a.lens.now a.regions.now _ _ _ c.adaptive_clear-a.ensures.result_after c.adaptive_clear-a.ensures.answer_told in record { result_after = l; answer_told = t }

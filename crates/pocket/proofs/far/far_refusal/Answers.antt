@@ -13,15 +13,15 @@ unfolding far_refusal
 returns-then-not-sides_fit c = when_not _ _ c.sides_fit.ensures c.if-not-sides_fit.true _ _
 
 pub overflow_mul-n : goal.overflow_mul-n
-overflow_mul-n c =    let s = c.args in
+overflow_mul-n c = let s = c.args in
     omega (arith, sides-few s.nx s.ny (sym c.sides_fit.ensures ∙ c.if-not-sides_fit.false))
 
 pub overflow_mul-nx : goal.overflow_mul-nx
-overflow_mul-nx c =    let s = c.args in
+overflow_mul-nx c = let s = c.args in
     omega (arith, (map-sides s.nx s.ny (sym c.sides_fit.ensures ∙ c.if-not-sides_fit.false)).wide)
 
 pub overflow_add-n : goal.overflow_add-n
-overflow_add-n c =    let s = c.args in
+overflow_add-n c = let s = c.args in
     let y = (sym c.sides_fit.ensures ∙ c.if-not-sides_fit.false) in
     omega (arith, sides-few s.nx s.ny y, (map-sides s.nx s.ny y).wide)
 

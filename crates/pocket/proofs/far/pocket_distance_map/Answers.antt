@@ -6,5 +6,5 @@ use Rattle.pocket.proofs.FarLaws.{map_finished}
 use Rattle.pocket.proofs.far.pocket_distance_map.Goals as goal
 
 pub returns : goal.returns
-returns c =     let s = c.args in
-    let d = c.distance_map in record { distances_after = told-far of_done _ _ c.of_done.ensures _ _ _ d.ensures.distances_after; transformed = λ e. d.ensures.transformed (map_finished s.nx s.ny s.marks.now s.mark s.squares.now _ s.distances.now _ _ _ d.ensures.distances_after c.of_done.ensures e); }
+returns c = let s = c.args in
+    let d = c.distance_map in record { distances_after = told-far of_done _ _ c.of_done.ensures _ _ _ d.ensures.distances_after; transformed = λ e. d.ensures.transformed (map_finished s.nx s.ny s.marks.now s.mark s.squares.now _ s.distances.now _ _ _ d.ensures.distances_after c.of_done.ensures e) }

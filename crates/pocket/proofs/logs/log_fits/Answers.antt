@@ -20,12 +20,12 @@ pub overflow_cast-log : goal.overflow_cast-log
 overflow_cast-log c = omega (arith, c.shared_slice_known-1.given c.loop-k.k)
 
 pub returns-then-n-log : goal.returns-then-n-log
-returns-then-n-log c =    let s = c.args in
+returns-then-n-log c = let s = c.args in
     log-past s.log.now _ _ c.if-log-used.false (any_out _ _ _ c.loop-k.k c.loop-k.invariant c.loop-k-test.true (le-leb _ _ c.if-n-log.true))
 
 pub loop-k-preserved : goal.loop-k-preserved
 loop-k-preserved c = any-on _ _ _ c.loop-k.k c.loop-k.invariant c.loop-k-test.true (lt-leb _ _ c.if-n-log.false)
 
 pub returns : goal.returns
-returns c =    let s = c.args in
+returns c = let s = c.args in
     log-within s.log.now _ _ c.if-log-used.false (any_none _ _ _ c.loop-k.k c.loop-k.invariant c.loop-k-test.false)

@@ -12,7 +12,7 @@ unfolding cell_at_of
 returns-then-no-ne0 c = is-refused Refused _ _ c.cell_refusal-no.ensures c.if-no-ne0.true _
 
 pub cell_of-f-requires : goal.cell_of-f-requires
-cell_of-f-requires c =  let s = cell-none _ _ (sym c.cell_refusal-no.ensures ∙ c.if-no-ne0.false) in record { nx_bound = s.columns; ny_bound = s.rows; }
+cell_of-f-requires c = let s = cell-none _ _ (sym c.cell_refusal-no.ensures ∙ c.if-no-ne0.false) in record { nx_bound = s.columns; ny_bound = s.rows }
 
 pub returns-in-Nothing : goal.returns-in-Nothing
 unfolding cell_at_of cell_answer

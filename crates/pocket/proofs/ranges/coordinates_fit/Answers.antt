@@ -13,10 +13,10 @@ loop-k-init c = going_none _ _ _ _
 
 pub returns-then-not-coordinate_fits : goal.returns-then-not-coordinate_fits
 unfolding coordinates_fit
-returns-then-not-coordinate_fits c = ap not (any_out _ _ _ c.loop-k.k c.loop-k.invariant c.loop-k-test.true (ap not (sym c.coordinate_fits.ensures) ∙ c.if-not-coordinate_fits.true))
+returns-then-not-coordinate_fits c = ap not (any_out _ _ _ c.loop-k.k c.loop-k.invariant c.loop-k-test.true (ap not (sym c.coordinate_fits.ensures) ∙ ap not c.if-not-coordinate_fits.true))
 
 pub loop-k-preserved : goal.loop-k-preserved
-loop-k-preserved c = any-on _ _ _ c.loop-k.k c.loop-k.invariant c.loop-k-test.true (ap not (sym c.coordinate_fits.ensures) ∙ c.if-not-coordinate_fits.false)
+loop-k-preserved c = any-on _ _ _ c.loop-k.k c.loop-k.invariant c.loop-k-test.true (ap not (sym c.coordinate_fits.ensures) ∙ ap not c.if-not-coordinate_fits.false)
 
 pub returns : goal.returns
 unfolding coordinates_fit

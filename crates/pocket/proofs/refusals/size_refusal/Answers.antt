@@ -10,7 +10,7 @@ pub returns-then-not-sides_fit : goal.returns-then-not-sides_fit
 returns-then-not-sides_fit c = size_odd _ _ _ (sym c.sides_fit.ensures ∙ c.if-not-sides_fit.true)
 
 pub overflow_mul-ny : goal.overflow_mul-ny
-overflow_mul-ny c =    let s = c.args in
+overflow_mul-ny c = let s = c.args in
     omega (arith, sides-few s.nx s.ny (sym c.sides_fit.ensures ∙ c.if-not-sides_fit.false))
 
 pub returns-then-long-ny : goal.returns-then-long-ny

@@ -16,7 +16,7 @@ pub fill_rim-requires : goal.fill_rim-requires
 fill_rim-requires c = samples-few c.grid_fits.result c.disk_fits.result _ _ (map-none _ _ _ _ (sym c.map_refusal-no.ensures ∙ c.if-no-ne0.false)).0 c.samples_of.ensures
 
 pub rim_contact-requires : goal.rim_contact-requires
-rim_contact-requires c = record { over = map-over _ _ _ (sym c.map_refusal-no.ensures ∙ c.if-no-ne0.false); rim = rim-same c.samples_of.ensures c.fill_rim.ensures.1; }
+rim_contact-requires c = record { over = map-over _ _ _ (sym c.map_refusal-no.ensures ∙ c.if-no-ne0.false); rim = rim-same c.samples_of.ensures c.fill_rim.ensures.1 }
 
 pub returns : goal.returns
 unfolding contact_of
