@@ -1,8 +1,7 @@
 -- Segments joined end to end into pieces: the second half of `contours` of adaptive.rs, with its map `next` and its sets `has_prev` and `used`. Definitions only.
 use Rattle.std.specs.Prelude.{ℕ, ◌*◌, Bool, true, false, cond, not, ◌||◌, List, [], ◌∷◌, ◌++◌, map, length, nat_lt, Float}
 use Rattle.std.proofs.Math.Option.{Option, none, some}
-use Rattle.std.specs.Float.{binary64}
-use Rattle.std.specs.Float.Ieee.{of_bits, lt}
+use Rattle.std.specs.Float.Ieee.{lt}
 use Rattle.numbers.specs.Small.{nano}
 use Rattle.loops.specs.Each.{over}
 use Rattle.loops.specs.Loop.{loop, Run, on, out, turn}

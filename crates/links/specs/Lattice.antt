@@ -1,7 +1,7 @@
 -- The lattice that a way is sought on, as `link_path` of adaptive.rs lays it: every k-th cell of the raster both ways, and 8 neighbours a node. Definitions only.
 use Rattle.std.specs.Prelude.{Bool, false, ◌&&◌, ◌||◌, cond, List, [], ◌∷◌, ℕ, ◌+◌, ◌-◌, ◌*◌, ◌/◌, ◌%◌, ◌<◌, min, ◌≡◌, eqb, ltb, get_or, Float}
 use Rattle.std.specs.Float.{binary64}
-use Rattle.std.specs.Float.Ieee.{of_bits, sub, div, lt, to_unsigned}
+use Rattle.std.specs.Float.Ieee.{sub, div, lt, to_unsigned}
 use Rattle.numbers.specs.Whole.{above, round_of}
 use Rattle.numbers.specs.Order.{max_of}
 use Rattle.numbers.specs.Small.{f1, f16}

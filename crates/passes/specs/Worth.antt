@@ -1,7 +1,7 @@
 -- Whether a pass is worth cutting, as `cut_piece` of adaptive.rs has it. Definitions only.
 use Rattle.std.specs.Prelude.{ℕ, zero, suc, ◌+◌, max, Bool, not, ◌||◌, List, [], ◌∷◌, ◌++◌, length, ltb, Float}
 use Rattle.std.specs.Float.{binary64}
-use Rattle.std.specs.Float.Ieee.{of_bits, to_unsigned, mul, div}
+use Rattle.std.specs.Float.Ieee.{to_unsigned, mul, div}
 use Rattle.numbers.specs.Small.{c05}
 use Rattle.geom.specs.declared.vec2.Vec2.{Vec2}
 use Rattle.events.specs.Read.{spot_at}

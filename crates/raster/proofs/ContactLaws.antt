@@ -18,7 +18,6 @@ use Rattle.raster.specs.Grid.{stock_at}
 use Rattle.geom.specs.Points.{put_point}
 use Rattle.raster.specs.Contact.{samples_of, direction_at, rim_at, hit_at, hits_of, rim_contact, Rim, put_rim, rimmed}
 use Rattle.raster.specs.declared.grid.Grid.{Grid}
-use Rattle.raster.specs.declared.contact.Contact.{Contact}
 use Rattle.raster.proofs.SweepLaws.{loop_suc}
 
 -- ---- the table

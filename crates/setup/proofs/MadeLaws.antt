@@ -4,7 +4,7 @@ use mathlib.Core.Path.{◌≡◌, refl}
 use mathlib.Core.Bool.{Bool, true}
 use Prim.Native.Nat.{◌≤◌}
 use native.Mathlib.Omega.{arith}
-use lib.Ieee.{Float, binary64, of_bits, lt, le}
+use lib.Ieee.{Float, lt, le}
 use Rattle.numbers.specs.Bound.{Bounds}
 use Rattle.numbers.specs.Circle.{radians_of}
 use Rattle.numbers.specs.Small.{f1, f180}

@@ -1,5 +1,5 @@
 -- What `contours` and `smooth_all` leave in the parts that are lent to them, read in the workspace. Assumes nothing.
-use mathlib.Core.Path.{◌≡◌, refl, sym, ap, ◌∙◌, subst}
+use mathlib.Core.Path.{◌≡◌, sym, ap, ◌∙◌, subst}
 use mathlib.Core.List.{List, map}
 use Prim.Native.Nat.{ℕ, ◌+◌, ◌-◌, ◌*◌, ◌≤◌, ◌<◌}
 use native.Mathlib.Omega.{arith}
@@ -10,8 +10,7 @@ use Rattle.loops.specs.Regions.{Fits, within}
 use Rattle.loops.specs.Frame.{Only}
 use Rattle.loops.proofs.RegionLaws.{region-long}
 use Rattle.loops.proofs.FrameLaws.{back_there, back-only}
-use Rattle.raster.specs.declared.grid.Grid.{Grid}
-use Rattle.setup.specs.Layout.{marks_from, segments_from, log_from, rows_from, traced_from, guide_from}
+use Rattle.setup.specs.Layout.{log_from, rows_from, traced_from, guide_from}
 use Rattle.pieces.specs.Piece.{Piece, row_at, pieces_at, end_of, Laid}
 use Rattle.pieces.specs.declared.row.Count.{Count}
 use Rattle.pieces.proofs.PartLaws.{inner_part}

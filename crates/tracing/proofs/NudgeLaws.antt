@@ -1,14 +1,14 @@
 -- A point looked for round another, and points pulled in one after another. Assumes nothing.
-use mathlib.Core.Path.{◌≡◌, refl, sym, ap, ◌∙◌, subst}
+use mathlib.Core.Path.{◌≡◌, refl, sym, ap, ◌∙◌}
 use mathlib.Core.Bool.{Bool, true, false}
 use mathlib.Core.List.{List, [], ◌∷◌, ◌++◌, map, map-append}
-use Prim.Native.Nat.{ℕ, zero, suc, ◌+◌, ◌-◌, ◌*◌, ◌≤◌, ◌<◌}
+use Prim.Native.Nat.{ℕ, zero, suc, ◌+◌, ◌*◌, ◌≤◌, ◌<◌}
 use native.Mathlib.Omega.{arith}
 use lib.ListN.{length}
 use lib.Dec.{eqb}
 use lib.Ieee.{Float}
 use borrow.Author.Tests.{eqb-true, eqb-false}
-use Rattle.loops.specs.Loop.{loop, Run, on, out, turn}
+use Rattle.loops.specs.Loop.{on, turn}
 use Rattle.loops.proofs.Cases.{by_cases}
 use Rattle.loops.proofs.LoopLaws.{Going, going_on, going_out, going_end, loop_both}
 use Rattle.geom.specs.Points.{points, put_point}

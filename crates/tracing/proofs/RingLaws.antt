@@ -25,10 +25,10 @@ use Rattle.setup.proofs.LayoutLaws.{run-put, run_other}
 use Rattle.setup.proofs.PartLaws.{part_is, part_long, back_is, put-run-long}
 use Rattle.field.specs.Field.{ring_at}
 use Rattle.links.specs.Path.{wall_in}
-use Rattle.pieces.specs.Piece.{Piece, row_at, pieces_at, end_of}
+use Rattle.pieces.specs.Piece.{pieces_at}
 use Rattle.contours.specs.Curve.{contours_of}
 use Rattle.workspace.specs.Standing.{Standing}
-use Rattle.workspace.specs.Lies.{rows_in, traced_in, pieces_in, Lies}
+use Rattle.workspace.specs.Lies.{rows_in, traced_in, pieces_in}
 use Rattle.workspace.proofs.StandingLaws.{walls_of_lem, wall-kept, standing-kept, standing-walls}
 use Rattle.tracing.specs.Curves.{Room, Laying, Beside}
 use Rattle.tracing.specs.Ring.{nudged_by, nudged_piece, nudge_put, nudge_all, ring_of, s05, TracedRing}

@@ -1,5 +1,5 @@
 -- The curves of a field as they are traced in the workspace. Definitions only.
-use Rattle.std.specs.Prelude.{ℕ, ◌+◌, ◌*◌, ◌≤◌, ◌<◌, ◌≡◌, List, length, Float}
+use Rattle.std.specs.Prelude.{ℕ, ◌+◌, ◌*◌, ◌≤◌, ◌<◌, List, length, Float}
 use Rattle.loops.specs.Frame.{Only}
 use Rattle.setup.specs.Layout.{marks_from, segments_from, log_from, traced_from, guide_from}
 use Rattle.pieces.specs.Piece.{Piece, row_at, end_of, Laid}

@@ -1,5 +1,5 @@
 -- The ring along the boundary of where the tool may go, as `plan` and `nudge_inside` of adaptive.rs have it. Definitions only.
-use Rattle.std.specs.Prelude.{ℕ, ◌*◌, ◌≤◌, ◌≡◌, Bool, cond, List, map, length, Float}
+use Rattle.std.specs.Prelude.{ℕ, ◌≡◌, Bool, cond, List, map, length, Float}
 use Rattle.std.specs.Float.{binary32, binary64}
 use Rattle.std.specs.Float.Ieee.{of_bits, mul, div}
 use Rattle.loops.specs.Loop.{loop, Run, on, out, turn}

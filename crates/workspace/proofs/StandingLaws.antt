@@ -1,7 +1,7 @@
 -- What stands between the steps of a plan is what each layer asks for, and a step that leaves it alone finds it again. Assumes nothing.
-use mathlib.Core.Path.{◌≡◌, refl, sym, ap, ◌∙◌, subst}
+use mathlib.Core.Path.{◌≡◌, refl, sym, ◌∙◌, subst}
 use mathlib.Core.List.{List}
-use Prim.Native.Nat.{ℕ, ◌+◌, ◌-◌, ◌*◌, ◌≤◌}
+use Prim.Native.Nat.{ℕ, ◌-◌, ◌*◌, ◌≤◌}
 use native.Mathlib.Omega.{arith}
 use lib.ListN.{length}
 use lib.Ieee.{Float}
@@ -10,7 +10,7 @@ use Rattle.loops.specs.Frame.{Only}
 use Rattle.loops.proofs.RegionLaws.{region-long}
 use Rattle.loops.proofs.FrameLaws.{only_same, only_more, only-before, only-after, only_wider}
 use Rattle.raster.specs.Grid.{Over}
-use Rattle.setup.specs.Layout.{map_in, traced_from, rim_from, Lent}
+use Rattle.setup.specs.Layout.{map_in, traced_from, rim_from}
 use Rattle.setup.specs.Place.{cells_of, Walls}
 use Rattle.setup.specs.Tables.{Tables}
 use Rattle.setup.specs.declared.Setup.{Setup}

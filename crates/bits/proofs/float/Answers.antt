@@ -7,7 +7,6 @@ use lib.Ieee.{binary64, of_bits, div}
 use lib.Ieee.Bits.{nan_bits_above}
 use borrow.Author.Tests.{le-ltb, lt-ltb}
 use Rattle.bits.proofs.FloatLaws.{nan_read}
-use borrow.Author.Rules.{rules}
 use Rattle.bits.proofs.float.Goals as goal
 
 pub float_from_bits-result : goal.float_from_bits-result

@@ -2,7 +2,6 @@
 use mathlib.Core.Path.{ap}
 use lib.Ieee.{binary64, to_bits}
 use Rattle.bits.proofs.FloatLaws.{no_nan, the_nan}
-use borrow.Author.Rules.{rules}
 use Rattle.bits.proofs.pattern.Goals as goal
 
 pub float_to_bits-result : goal.float_to_bits-result

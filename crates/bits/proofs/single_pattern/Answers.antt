@@ -5,7 +5,6 @@ use lib.Dec.{T}
 use lib.Ieee.{binary32, to_bits}
 use lib.Ieee.Bits.{to_bits-lt}
 use Rattle.bits.proofs.FloatLaws.{no_nan, the_nan}
-use borrow.Author.Rules.{rules}
 use Rattle.bits.proofs.single_pattern.Goals as goal
 
 pub float_to_bits-result : goal.float_to_bits-result

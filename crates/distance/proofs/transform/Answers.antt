@@ -4,7 +4,6 @@ use native.Mathlib.Omega.{arith}
 use Rattle.distance.proofs.NumberLaws.{one-row}
 use Rattle.distance.proofs.RowLaws.{down_self, transformed}
 use Rattle.distance.proofs.NearestLaws.{work-is}
-use borrow.Author.Rules.{rules}
 use Rattle.distance.proofs.transform.Goals as goal
 
 pub first-requires : goal.first-requires

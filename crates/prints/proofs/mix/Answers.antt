@@ -1,7 +1,6 @@
 -- `prints::mix` meets its contract. Assumes nothing.
 use mathlib.Core.Path.{refl}
 use Rattle.prints.specs.Print.{mixed}
-use borrow.Author.Rules.{rules}
 use Rattle.prints.proofs.mix.Goals as goal
 
 pub returns : goal.returns

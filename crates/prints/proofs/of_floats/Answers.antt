@@ -1,9 +1,7 @@
 -- `prints::of_floats` meets its contract. The invariant: the fingerprint is of the floats so far. Assumes nothing.
-use Rattle.loops.proofs.LoopLaws.{Going, going_none, going_more, going_end}
-use borrow.Author.Rules.{rules}
-use Prim.Native.Nat.{◌-◌}
+use Rattle.loops.proofs.LoopLaws.{going_none, going_more, going_end}
 use mathlib.Core.Path.{ap, ◌∙◌}
-use Rattle.prints.specs.Print.{mixed, mix_float, floats_of}
+use Rattle.prints.specs.Print.{mixed, floats_of}
 use Rattle.prints.proofs.of_floats.Goals as goal
 
 pub loop-k-init : goal.loop-k-init

@@ -1,9 +1,6 @@
 -- `prints::of_floats` meets its contract. The invariant: the fingerprint is of the floats so far. Assumes nothing.
-use Rattle.loops.proofs.LoopLaws.{Going, going_none, going_more, going_end}
-use borrow.Author.Rules.{rules}
-use Prim.Native.Nat.{◌-◌}
-use mathlib.Core.Path.{ap, ◌∙◌}
-use Rattle.prints.specs.Print.{mixed, mix_float, floats_of}
+use Rattle.loops.proofs.LoopLaws.{Going}
+use Rattle.prints.specs.Print.{mix_float}
 use Rattle.prints.proofs.of_floats.Given as goal
 
 abbrev pub invariant-loop-k : goal.invariant-loop-k

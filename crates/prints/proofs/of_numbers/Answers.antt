@@ -1,9 +1,7 @@
 -- `prints::of_numbers` meets its contract. The invariant: the fingerprint is of the numbers so far. Assumes nothing.
 use native.Mathlib.Omega.{arith}
-use Rattle.loops.proofs.LoopLaws.{Going, going_none, going_more, going_end}
-use borrow.Author.Rules.{rules}
-use Prim.Native.Nat.{◌-◌}
-use Rattle.prints.specs.Print.{mix_at, print_of}
+use Rattle.loops.proofs.LoopLaws.{going_none, going_more, going_end}
+use Rattle.prints.specs.Print.{print_of}
 use Rattle.prints.proofs.of_numbers.Goals as goal
 
 pub loop-k-init : goal.loop-k-init

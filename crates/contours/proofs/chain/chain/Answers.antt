@@ -1,5 +1,5 @@
 -- `contours::chain::chain` meets its contract. The invariant: some edges were followed, and what is kept of their points is written. The measure: edges that are not used. Assumes nothing.
-use Rattle.std.proofs.Common.{◌≡◌, ℕ, ◌-◌, ◌*◌, ◌<◌, ◌≤◌, List, length, get_or, set, sym, refl, ap, ◌∙◌, subst, arith, length-set, ne_eqb, eqb-true}
+use Rattle.std.proofs.Common.{◌≡◌, ℕ, ◌*◌, ◌<◌, ◌≤◌, List, length, get_or, set, sym, refl, ap, ◌∙◌, subst, arith, length-set, ne_eqb, eqb-true}
 use lib.Ieee.{Float}
 use borrow.Author.Tests.{eqb-false}
 use Rattle.loops.specs.Cells.{ones}
@@ -8,7 +8,6 @@ use Rattle.geom.specs.Points.{put_point}
 use Rattle.geom.specs.declared.vec2.Vec2.{Vec2}
 use Rattle.raster.specs.declared.grid.Grid.{Grid}
 use Rattle.raster.specs.Grid.{Sides}
-use Rattle.contours.specs.declared.chain.Trail.{Trail}
 use Rattle.contours.specs.declared.edge.EdgeNo.{EdgeNo}
 use Rattle.contours.specs.Edge.{edge, nothing, Between}
 use Rattle.contours.specs.Chain.{edge_point, Chaining}

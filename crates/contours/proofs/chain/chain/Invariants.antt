@@ -1,18 +1,13 @@
 -- `contours::chain::chain` meets its contract. The invariant: some edges were followed, and what is kept of their points is written. The measure: edges that are not used. Assumes nothing.
-use Rattle.std.proofs.Common.{◌≡◌, ℕ, ◌-◌, ◌*◌, ◌<◌, ◌≤◌, List, length, get_or, set, sym, refl, ap, ◌∙◌, subst, arith, length-set, ne_eqb, eqb-true}
+use Rattle.std.proofs.Common.{◌≡◌, ℕ, ◌-◌, ◌<◌, List, length, set}
 use lib.Ieee.{Float}
-use borrow.Author.Tests.{eqb-false}
 use Rattle.loops.specs.Cells.{ones}
-use Rattle.loops.proofs.CellLaws.{ones_le, ones-mark}
 use Rattle.geom.specs.Points.{put_point}
 use Rattle.geom.specs.declared.vec2.Vec2.{Vec2}
 use Rattle.raster.specs.declared.grid.Grid.{Grid}
 use Rattle.contours.specs.declared.chain.Trail.{Trail}
-use Rattle.contours.specs.declared.edge.EdgeNo.{EdgeNo}
-use Rattle.contours.specs.Edge.{edge, nothing, Between}
 use Rattle.contours.specs.Chain.{edge_point, Chaining}
-use Rattle.contours.proofs.EdgeLaws.{edge-below}
-use Rattle.contours.proofs.FollowLaws.{Following, following_none, following_more, out_open, out-closed, out-used, point-room, first-room}
+use Rattle.contours.proofs.FollowLaws.{Following}
 use Rattle.contours.proofs.chain.chain.Given as goal
 
 -- whatever the slices were before the first edge was put

@@ -1,5 +1,5 @@
 -- `contours::chain::chain_all` meets its contract. The invariant: the chains of k segments are taken up. Assumes nothing.
-use Rattle.std.proofs.Common.{◌≡◌, ℕ, ◌+◌, ◌-◌, ◌*◌, ◌<◌, ◌≤◌, length, get_or, sym, refl, ap, ◌∙◌, subst, arith}
+use Rattle.std.proofs.Common.{◌≡◌, ℕ, ◌+◌, ◌*◌, ◌<◌, ◌≤◌, length, get_or, sym, refl, ap, ◌∙◌, subst, arith}
 use Rattle.contours.specs.Edge.{edge, Between}
 use Rattle.contours.specs.Square.{segment, Joins}
 use Rattle.contours.specs.Places.{next_at, words_end}

@@ -1,14 +1,8 @@
 -- `contours::chain::chain_all` meets its contract. The invariant: the chains of k segments are taken up. Assumes nothing.
-use Rattle.std.proofs.Common.{◌≡◌, ℕ, ◌+◌, ◌-◌, ◌*◌, ◌<◌, ◌≤◌, length, get_or, sym, refl, ap, ◌∙◌, subst, arith}
-use Rattle.contours.specs.Edge.{edge, Between}
-use Rattle.contours.specs.Square.{segment, Joins}
-use Rattle.contours.specs.Places.{next_at, words_end}
+use Rattle.std.proofs.Common.{◌≤◌}
 use Rattle.contours.specs.Chain.{chains, edge_point}
 use Rattle.contours.specs.Traced.{pieces_in, Traced}
-use Rattle.contours.specs.declared.edge.EdgeNo.{EdgeNo}
-use Rattle.contours.specs.declared.square.Segment.{Segment}
-use Rattle.contours.proofs.TableLaws.{segment-read, segment-each}
-use Rattle.contours.proofs.TourLaws.{toured, tour_none, tour_more}
+use Rattle.contours.proofs.TourLaws.{toured}
 use Rattle.contours.proofs.chain.chain_all.Given as goal
 
 abbrev pub invariant-loop-k : goal.invariant-loop-k

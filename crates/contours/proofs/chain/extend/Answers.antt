@@ -1,5 +1,5 @@
 -- `contours::chain::extend` meets its contract. Assumes nothing.
-use Rattle.std.proofs.Common.{◌≡◌, true, false, sym, refl, ap, ◌∙◌, rules}
+use Rattle.std.proofs.Common.{◌≡◌, true, false, sym, refl, ap, ◌∙◌}
 use lib.Ieee.{Float, lt}
 use Rattle.numbers.specs.Small.{nano}
 use Rattle.contours.specs.Chain.{extended, put_kept}

@@ -1,5 +1,5 @@
 -- `contours::chain::start_at` meets its contract. Assumes nothing.
-use Rattle.std.proofs.Common.{◌≡◌, ℕ, get_or, sym, ap, ◌∙◌, arith, rules}
+use Rattle.std.proofs.Common.{◌≡◌, ℕ, get_or, sym, ap, ◌∙◌, arith}
 use Rattle.contours.specs.Chain.{edge_point, starts_at}
 use Rattle.contours.proofs.EdgeLaws.{edge-below}
 use Rattle.contours.proofs.TourLaws.{traced_start, traced_pass, unused-start}

@@ -1,5 +1,5 @@
 -- `contours::chain::take_up` meets its contract. Assumes nothing.
-use Rattle.std.proofs.Common.{◌∙◌, arith, rules}
+use Rattle.std.proofs.Common.{◌∙◌, arith}
 use Rattle.loops.specs.Regions.{within}
 use Rattle.loops.proofs.RegionLaws.{put_is}
 use Rattle.contours.proofs.TraceLaws.{chaining, traced_none, traced_more, row_room, points-few, followed_there, rows_there}

@@ -1,5 +1,5 @@
 -- `contours::edge::across` meets its contract. Assumes nothing.
-use Rattle.std.proofs.Common.{refl, rules}
+use Rattle.std.proofs.Common.{refl}
 use Rattle.contours.specs.Edge.{across_of}
 use Rattle.contours.proofs.edge.across.Goals as goal
 

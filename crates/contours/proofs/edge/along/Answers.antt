@@ -1,6 +1,5 @@
 -- `contours::edge::along` meets its contract. Assumes nothing.
 use Rattle.contours.specs.Edge.{along_of}
-use Rattle.std.proofs.Common.{rules}
 use Rattle.contours.proofs.edge.along.Goals as goal
 
 pub returns-then-abs : goal.returns-then-abs

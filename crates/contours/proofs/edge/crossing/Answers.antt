@@ -1,5 +1,5 @@
 -- `contours::edge::crossing` meets its contract. Assumes nothing.
-use Rattle.std.proofs.Common.{◌∙◌, rules}
+use Rattle.std.proofs.Common.{◌∙◌}
 use Rattle.contours.proofs.EdgeLaws.{cell-within, few-columns, crossing_is}
 use Rattle.contours.proofs.edge.crossing.Goals as goal
 

@@ -1,5 +1,5 @@
 -- `contours::edge::far_cell` meets its contract. Assumes nothing.
-use Rattle.std.proofs.Common.{◌≡◌, ◌+◌, ◌∙◌, arith, rules}
+use Rattle.std.proofs.Common.{◌≡◌, ◌+◌, ◌∙◌, arith}
 use Rattle.contours.specs.Edge.{far_of}
 use Rattle.contours.proofs.edge.far_cell.Goals as goal
 use Rattle.contours.proofs.edge.far_cell.Goals.{After-struct_known-1, Else-is_upward}

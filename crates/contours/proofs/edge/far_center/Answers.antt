@@ -1,6 +1,5 @@
 -- `contours::edge::far_center` meets its contract. Assumes nothing.
 use Rattle.contours.specs.Edge.{far_center}
-use Rattle.std.proofs.Common.{rules}
 use Rattle.contours.proofs.edge.far_center.Goals as goal
 
 pub returns-then-is_upward : goal.returns-then-is_upward

@@ -1,5 +1,5 @@
 -- `contours::edge::upward` meets its contract. Assumes nothing.
-use Rattle.std.proofs.Common.{refl, rules}
+use Rattle.std.proofs.Common.{refl}
 use Rattle.contours.specs.Edge.{upward_of}
 use Rattle.contours.proofs.edge.upward.Goals as goal
 

@@ -1,8 +1,7 @@
 -- `contours::march::march` meets its contract. The invariant: the n first are the segments of the rows so far. Assumes nothing.
-use Rattle.std.proofs.Common.{◌≡◌, ◌+◌, ◌-◌, ◌*◌, ◌≤◌, [], length, refl, ◌∙◌, le_refl, mul-le-mul_right, add-mul, arith}
-use Rattle.loops.proofs.CellLaws.{row_below}
-use Rattle.loops.proofs.LoopLaws.{Going, going_none, going_more, going_end}
-use Rattle.contours.specs.March.{segments_of, march_row, march}
+use Rattle.std.proofs.Common.{◌≡◌, ◌-◌, ◌*◌, ◌≤◌, [], length}
+use Rattle.loops.proofs.LoopLaws.{Going}
+use Rattle.contours.specs.March.{segments_of, march_row}
 use Rattle.contours.proofs.march.march.Given as goal
 
 abbrev pub invariant-loop-j : goal.invariant-loop-j

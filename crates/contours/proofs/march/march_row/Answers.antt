@@ -1,7 +1,7 @@
 -- `contours::march::march_row` meets its contract. The invariant: the m first are the segments so far. Assumes nothing.
-use Rattle.std.proofs.Common.{◌≡◌, ◌+◌, ◌-◌, ◌*◌, ◌≤◌, length, sym, refl, ap, ◌∙◌, arith}
+use Rattle.std.proofs.Common.{sym, refl, ap, ◌∙◌, arith}
 use Rattle.loops.proofs.LoopLaws.{loop-none, loop-end, loop_split}
-use Rattle.contours.specs.March.{segments_of, march_row}
+use Rattle.contours.specs.March.{march_row}
 use Rattle.contours.specs.Quiet.{march_run}
 use Rattle.contours.proofs.march.march_row.Goals as goal
 

@@ -1,5 +1,5 @@
 -- `contours::march::march_run` meets its contract. Assumes nothing.
-use Rattle.std.proofs.Common.{sym, refl, arith, rules}
+use Rattle.std.proofs.Common.{sym, refl, arith}
 use Rattle.contours.proofs.QuietLaws.{quiet_passed}
 use Rattle.contours.proofs.march.march_run.Goals as goal
 

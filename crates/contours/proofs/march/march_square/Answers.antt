@@ -1,6 +1,5 @@
 -- `contours::march::march_square` meets its contract. Assumes nothing.
 use Rattle.contours.proofs.MarchLaws.{on-square, square-none, square-some}
-use Rattle.std.proofs.Common.{rules}
 use Rattle.contours.proofs.march.march_square.Goals as goal
 
 pub returns-then-has_nan : goal.returns-then-has_nan

@@ -1,7 +1,6 @@
 -- `contours::march::march_squares` meets its contract. The invariant: the m first are the segments so far. Assumes nothing.
-use Rattle.std.proofs.Common.{◌≡◌, ◌+◌, ◌-◌, ◌*◌, ◌≤◌, length, refl, ◌∙◌, arith}
-use Rattle.loops.proofs.LoopLaws.{Going, going_none, going_more, going_end}
-use Rattle.contours.specs.March.{segments_of, march_square}
+use Rattle.std.proofs.Common.{refl, ◌∙◌, arith}
+use Rattle.loops.proofs.LoopLaws.{going_none, going_more, going_end}
 use Rattle.contours.proofs.march.march_squares.Goals as goal
 
 pub loop-i-init : goal.loop-i-init

@@ -1,5 +1,4 @@
 -- `contours::march::push` meets its contract. Assumes nothing.
-use Rattle.std.proofs.Common.{rules}
 use Rattle.contours.proofs.march.push.Goals as goal
 
 pub returns : goal.returns

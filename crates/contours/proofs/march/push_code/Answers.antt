@@ -1,5 +1,5 @@
 -- `contours::march::push_code` meets its contract. Assumes nothing.
-use Rattle.std.proofs.Common.{arith, rules}
+use Rattle.std.proofs.Common.{arith}
 use Rattle.contours.proofs.JoinLaws.{saddle_joins, cut_joins}
 use Rattle.contours.proofs.MarchLaws.{code_none, code_two, code_one}
 use Rattle.contours.proofs.march.push_code.Goals as goal

@@ -1,5 +1,5 @@
 -- `contours::march::push_saddle` meets its contract. Assumes nothing.
-use Rattle.std.proofs.Common.{◌∙◌, rules}
+use Rattle.std.proofs.Common.{◌∙◌}
 use Rattle.contours.proofs.march.push_saddle.Goals as goal
 
 pub returns : goal.returns

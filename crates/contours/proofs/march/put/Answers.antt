@@ -1,5 +1,5 @@
 -- `contours::march::put` meets its contract. Assumes nothing.
-use Rattle.std.proofs.Common.{ℕ, ◌+◌, ◌*◌, List, set, ap, ◌∙◌, rules}
+use Rattle.std.proofs.Common.{ℕ, ◌+◌, ◌*◌, List, set, ap, ◌∙◌}
 use Rattle.contours.specs.March.{put_segment}
 use Rattle.contours.proofs.march.put.Goals as goal
 

@@ -1,8 +1,7 @@
 -- `contours::quiet::signs_of` meets its contract. The invariant: each flag is of the values from `from` on before k. Assumes nothing.
-use Rattle.std.proofs.Common.{◌-◌, false, get_or, refl, arith, rules}
-use lib.Ieee.{nan, lt, le}
-use Rattle.loops.specs.Loop.{or_at, any}
-use Rattle.loops.proofs.LoopLaws.{Going, going_none, going_more, going_end}
+use Rattle.std.proofs.Common.{refl}
+use Rattle.loops.specs.Loop.{any}
+use Rattle.loops.proofs.LoopLaws.{going_none, going_more, going_end}
 use Rattle.contours.specs.Quiet.{signs_of}
 use Rattle.contours.proofs.quiet.signs_of.Goals as goal
 

@@ -1,9 +1,8 @@
 -- `contours::quiet::signs_of` meets its contract. The invariant: each flag is of the values from `from` on before k. Assumes nothing.
-use Rattle.std.proofs.Common.{◌-◌, false, get_or, refl, arith, rules}
+use Rattle.std.proofs.Common.{false, get_or}
 use lib.Ieee.{nan, lt, le}
-use Rattle.loops.specs.Loop.{or_at, any}
-use Rattle.loops.proofs.LoopLaws.{Going, going_none, going_more, going_end}
-use Rattle.contours.specs.Quiet.{signs_of}
+use Rattle.loops.specs.Loop.{or_at}
+use Rattle.loops.proofs.LoopLaws.{Going}
 use Rattle.contours.proofs.quiet.signs_of.Given as goal
 
 abbrev pub invariant-loop-k : goal.invariant-loop-k

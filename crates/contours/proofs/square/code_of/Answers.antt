@@ -1,5 +1,5 @@
 -- `contours::square::code_of` meets its contract. Assumes nothing.
-use Rattle.std.proofs.Common.{arith, rules}
+use Rattle.std.proofs.Common.{arith}
 use Rattle.contours.specs.Square.{code_of}
 use Rattle.contours.proofs.SquareLaws.{few}
 use Rattle.contours.proofs.square.code_of.Goals as goal

@@ -1,6 +1,5 @@
 -- `contours::square::corners_of` meets its contract. Assumes nothing.
 use Rattle.contours.proofs.SquareLaws.{corners_are}
-use Rattle.std.proofs.Common.{rules}
 use Rattle.contours.proofs.square.corners_of.Goals as goal
 
 pub returns : goal.returns

@@ -1,6 +1,5 @@
 -- `contours::square::directed` meets its contract. Assumes nothing.
 use Rattle.contours.proofs.SquareLaws.{directed_back, directed_on}
-use Rattle.std.proofs.Common.{rules}
 use Rattle.contours.proofs.square.directed.Goals as goal
 
 pub returns-then-turned : goal.returns-then-turned

@@ -1,5 +1,5 @@
 -- `contours::square::edges_of` meets its contract. Assumes nothing.
-use Rattle.std.proofs.Common.{arith, rules}
+use Rattle.std.proofs.Common.{arith}
 use Rattle.contours.proofs.SquareLaws.{small-number, edges_are}
 use Rattle.contours.proofs.square.edges_of.Goals as goal
 

@@ -1,6 +1,5 @@
 -- `contours::square::nearer` meets its contract. Assumes nothing.
 use Rattle.contours.proofs.SquareLaws.{nearer-yes, nearer-no}
-use Rattle.std.proofs.Common.{rules}
 use Rattle.contours.proofs.square.nearer.Goals as goal
 
 pub returns-then-d-n : goal.returns-then-d-n

@@ -1,7 +1,6 @@
 -- `contours::square::nearest` meets its contract. Assumes nothing.
 use lib.Ieee.{of_bits, nan_bits}
 use Rattle.contours.proofs.SquareLaws.{nearest-is}
-use Rattle.std.proofs.Common.{rules}
 use Rattle.contours.proofs.square.nearest.Goals as goal
 
 pub float_from_bits-n0 : goal.float_from_bits-n0

@@ -1,5 +1,5 @@
 -- `contours::square::square_at` meets its contract. Assumes nothing.
-use Rattle.std.proofs.Common.{◌≡◌, ◌+◌, ◌*◌, ◌<◌, ◌≤◌, length, refl, ap, ◌∙◌, arith, rules}
+use Rattle.std.proofs.Common.{◌≡◌, ◌+◌, ◌*◌, ◌<◌, ◌≤◌, length, refl, ap, ◌∙◌, arith}
 use Rattle.raster.specs.Grid.{numbered}
 use Rattle.raster.specs.declared.grid.CellNo.{CellNo}
 use Rattle.contours.specs.Square.{square_at}

@@ -1,6 +1,5 @@
 -- `contours::square::turned` meets its contract. Assumes nothing.
 use Rattle.contours.proofs.SquareLaws.{turned-is}
-use Rattle.std.proofs.Common.{rules}
 use Rattle.contours.proofs.square.turned.Goals as goal
 
 pub returns : goal.returns

@@ -1,5 +1,5 @@
 -- `contours::tables::insert_all` meets its contract. The invariant: k segments are in the tables. Assumes nothing.
-use Rattle.std.proofs.Common.{◌≡◌, ℕ, ◌+◌, ◌-◌, ◌*◌, ◌<◌, ◌≤◌, length, get_or, ap, ◌∙◌, subst, arith}
+use Rattle.std.proofs.Common.{◌≡◌, ℕ, ◌+◌, ◌*◌, ◌<◌, ◌≤◌, length, get_or, ap, ◌∙◌, subst, arith}
 use Rattle.contours.specs.Edge.{edge}
 use Rattle.contours.specs.Square.{segment}
 use Rattle.contours.specs.Places.{next_at, words_end}

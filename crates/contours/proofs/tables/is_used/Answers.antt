@@ -1,5 +1,5 @@
 -- `contours::tables::is_used` meets its contract. Assumes nothing.
-use Rattle.std.proofs.Common.{refl, rules}
+use Rattle.std.proofs.Common.{refl}
 use Rattle.contours.proofs.tables.is_used.Goals as goal
 
 pub returns : goal.returns

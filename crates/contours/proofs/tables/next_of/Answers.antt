@@ -1,5 +1,5 @@
 -- `contours::tables::next_of` meets its contract. Assumes nothing.
-use Rattle.std.proofs.Common.{ℕ, get_or, ap, ◌∙◌, rules}
+use Rattle.std.proofs.Common.{ℕ, get_or, ap, ◌∙◌}
 use Rattle.contours.specs.Edge.{edge}
 use Rattle.contours.proofs.tables.next_of.Goals as goal
 

@@ -1,5 +1,5 @@
 -- `contours::tables::tabulate` meets its contract. Assumes nothing.
-use Rattle.std.proofs.Common.{refl, rules}
+use Rattle.std.proofs.Common.{refl}
 use Rattle.loops.specs.Regions.{within}
 use Rattle.contours.proofs.TabulateLaws.{listed_at, tabled_at}
 use Rattle.contours.proofs.tables.tabulate.Goals as goal

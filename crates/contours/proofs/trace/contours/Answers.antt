@@ -1,5 +1,5 @@
 -- `contours::trace::contours` meets its contract. Assumes nothing.
-use Rattle.std.proofs.Common.{sym, ap, ◌∙◌, arith, rules}
+use Rattle.std.proofs.Common.{sym, ap, ◌∙◌, arith}
 use Rattle.contours.specs.Places.{words_end}
 use Rattle.contours.proofs.ContourLaws.{tabled_joins, tracing-none, again_joins, contoured, contoured_cells}
 use Rattle.contours.proofs.trace.contours.Goals as goal

@@ -1,12 +1,8 @@
 -- `dilation::columns::down` meets its contract. Assumes nothing.
-use mathlib.Core.Path.{◌≡◌, refl, ◌∙◌}
-use Prim.Native.Nat.{ℕ, ◌+◌, ◌-◌, ◌*◌, ◌≤◌, ◌<◌}
-use native.Mathlib.Omega.{arith}
-use lib.ListN.{length, replicate, get_or-replicate}
-use Rattle.loops.proofs.CellLaws.{row_below}
+use mathlib.Core.Path.{◌≡◌}
+use Prim.Native.Nat.{◌≤◌}
+use lib.ListN.{length}
 use Rattle.dilation.specs.Parts.{Runs, Down}
-use Rattle.dilation.proofs.DownLaws.{down-none, down-end, down_more, runs_none, runs_more}
-use borrow.Author.Rules.{rules}
 use Rattle.dilation.proofs.columns.down.Given as goal
 
 abbrev pub invariant-loop-j : goal.invariant-loop-j

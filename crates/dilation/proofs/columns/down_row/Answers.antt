@@ -1,12 +1,10 @@
 -- `dilation::columns::down_row` meets its contract. Assumes nothing.
-use mathlib.Core.Path.{◌≡◌, refl, ◌∙◌, ap}
-use Prim.Native.Nat.{ℕ, ◌+◌, ◌-◌, ◌≤◌}
+use mathlib.Core.Path.{refl, ◌∙◌, ap}
+use Prim.Native.Nat.{ℕ, ◌+◌}
 use native.Mathlib.Omega.{arith}
-use lib.ListN.{length, get_or, length-set}
+use lib.ListN.{get_or, length-set}
 use Rattle.distance.specs.Column.{from_above}
-use Rattle.distance.specs.Wrote.{Wrote}
 use Rattle.distance.proofs.WroteLaws.{wrote_none, wrote_more, wrote-end}
-use borrow.Author.Rules.{rules}
 use Rattle.dilation.proofs.columns.down_row.Goals as goal
 
 pub loop-i-init : goal.loop-i-init

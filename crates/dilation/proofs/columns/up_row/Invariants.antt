@@ -1,12 +1,9 @@
 -- `dilation::columns::up_row` meets its contract. Assumes nothing.
-use mathlib.Core.Path.{◌≡◌, refl, ◌∙◌, ap}
-use Prim.Native.Nat.{ℕ, ◌+◌, ◌-◌, ◌≤◌}
-use native.Mathlib.Omega.{arith}
-use lib.ListN.{length, get_or, length-set}
+use mathlib.Core.Path.{◌≡◌}
+use Prim.Native.Nat.{◌+◌, ◌≤◌}
+use lib.ListN.{length, get_or}
 use Rattle.distance.specs.Column.{from_below}
 use Rattle.distance.specs.Wrote.{Wrote}
-use Rattle.distance.proofs.WroteLaws.{wrote_none, wrote_more, wrote-end}
-use borrow.Author.Rules.{rules}
 use Rattle.dilation.proofs.columns.up_row.Given as goal
 
 abbrev pub invariant-loop-i : goal.invariant-loop-i

@@ -1,7 +1,6 @@
 -- `dilation::cover::cover_within` meets its contract. Assumes nothing.
 use mathlib.Core.Path.{refl}
 use native.Mathlib.Omega.{arith}
-use borrow.Author.Rules.{rules}
 use Rattle.dilation.proofs.cover.cover_within.Goals as goal
 
 pub returns-else-e-gt0 : goal.returns-else-e-gt0

@@ -1,12 +1,10 @@
 -- `dilation::cover::from_left` meets its contract. Assumes nothing.
 use mathlib.Core.Path.{◌≡◌, refl, sym, ◌∙◌, ap, subst}
-use mathlib.Core.Logic.{⊎_elim}
-use Prim.Native.Nat.{ℕ, ◌+◌, ◌-◌, ◌≤◌, ◌<◌, max}
+use Prim.Native.Nat.{ℕ, ◌+◌, ◌<◌, max}
 use native.Mathlib.Omega.{arith}
 use lib.ListN.{length, set, length-set}
-use Rattle.dilation.specs.Parts.{width_at, Reach, CoveredLeft}
+use Rattle.dilation.specs.Parts.{width_at, CoveredLeft}
 use Rattle.dilation.proofs.CoverLaws.{reach-none, reach_more, lefts_none, lefts_on, lefts_off}
-use borrow.Author.Rules.{rules}
 use Rattle.dilation.proofs.cover.from_left.Goals as goal
 use Rattle.dilation.proofs.cover.from_left.Goals.{else-i-reach, then-i-reach}
 

@@ -1,12 +1,8 @@
 -- `dilation::cover::from_left` meets its contract. Assumes nothing.
-use mathlib.Core.Path.{◌≡◌, refl, sym, ◌∙◌, ap, subst}
-use mathlib.Core.Logic.{⊎_elim}
-use Prim.Native.Nat.{ℕ, ◌+◌, ◌-◌, ◌≤◌, ◌<◌, max}
-use native.Mathlib.Omega.{arith}
-use lib.ListN.{length, set, length-set}
+use mathlib.Core.Path.{◌≡◌}
+use Prim.Native.Nat.{◌≤◌}
+use lib.ListN.{length}
 use Rattle.dilation.specs.Parts.{width_at, Reach, CoveredLeft}
-use Rattle.dilation.proofs.CoverLaws.{reach-none, reach_more, lefts_none, lefts_on, lefts_off}
-use borrow.Author.Rules.{rules}
 use Rattle.dilation.proofs.cover.from_left.Given as goal
 
 abbrev pub invariant-loop-i : goal.invariant-loop-i

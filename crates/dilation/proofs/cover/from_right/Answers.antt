@@ -1,12 +1,10 @@
 -- `dilation::cover::from_right` meets its contract. Assumes nothing.
-use mathlib.Core.Path.{◌≡◌, refl, sym, ◌∙◌, ap, subst}
-use mathlib.Core.Logic.{⊎_elim}
-use Prim.Native.Nat.{ℕ, ◌+◌, ◌-◌, ◌≤◌, ◌<◌, max}
+use mathlib.Core.Path.{refl, sym, ◌∙◌, ap, subst}
+use Prim.Native.Nat.{ℕ, ◌+◌, ◌-◌, ◌<◌, max}
 use native.Mathlib.Omega.{arith}
 use lib.ListN.{length, length-set}
-use Rattle.dilation.specs.Parts.{width_at, Reach, CoveredRight}
+use Rattle.dilation.specs.Parts.{CoveredRight}
 use Rattle.dilation.proofs.CoverLaws.{reach-none, reach_more, rights_none, rights_on, rights_off, rights_end}
-use borrow.Author.Rules.{rules}
 use Rattle.dilation.proofs.cover.from_right.Goals as goal
 use Rattle.dilation.proofs.cover.from_right.Goals.{else-t-reach, then-t-reach}
 

@@ -1,12 +1,10 @@
 -- `dilation::widths::fill` meets its contract. Assumes nothing.
 use mathlib.Core.Path.{◌≡◌, ◌∙◌, subst}
-use Prim.Native.Nat.{ℕ, ◌+◌, ◌-◌, ◌≤◌}
+use Prim.Native.Nat.{ℕ}
 use native.Mathlib.Omega.{arith}
-use lib.ListN.{length, length-set}
-use Rattle.distance.specs.Least.{square}
+use lib.ListN.{length-set}
 use Rattle.dilation.specs.Parts.{WidthsTo}
 use Rattle.dilation.proofs.WidthLaws.{width_next, widths_more, widths-end}
-use borrow.Author.Rules.{rules}
 use Rattle.dilation.proofs.widths.fill.Goals as goal
 
 pub loop-d-preserved : goal.loop-d-preserved

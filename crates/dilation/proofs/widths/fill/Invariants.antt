@@ -1,12 +1,9 @@
 -- `dilation::widths::fill` meets its contract. Assumes nothing.
-use mathlib.Core.Path.{◌≡◌, ◌∙◌, subst}
-use Prim.Native.Nat.{ℕ, ◌+◌, ◌-◌, ◌≤◌}
-use native.Mathlib.Omega.{arith}
-use lib.ListN.{length, length-set}
+use mathlib.Core.Path.{◌≡◌}
+use Prim.Native.Nat.{◌+◌, ◌≤◌}
+use lib.ListN.{length}
 use Rattle.distance.specs.Least.{square}
 use Rattle.dilation.specs.Parts.{WidthsTo}
-use Rattle.dilation.proofs.WidthLaws.{width_next, widths_more, widths-end}
-use borrow.Author.Rules.{rules}
 use Rattle.dilation.proofs.widths.fill.Given as goal
 
 abbrev pub invariant-loop-d : goal.invariant-loop-d

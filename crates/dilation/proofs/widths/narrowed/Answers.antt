@@ -4,7 +4,6 @@ use Prim.Native.Nat.{ℕ, ◌+◌, ◌-◌, ◌≤◌}
 use native.Mathlib.Omega.{arith}
 use Rattle.distance.specs.Least.{square}
 use Rattle.dilation.proofs.WidthLaws.{square_mono, width_at_lem, width_none}
-use borrow.Author.Rules.{rules}
 use Rattle.dilation.proofs.widths.narrowed.Goals as goal
 use Rattle.dilation.proofs.widths.narrowed.Goals.{In-loop-v}
 

@@ -1,8 +1,7 @@
 -- `dilation::widths::root_above` meets its contract. Assumes nothing.
-use Prim.Native.Nat.{◌-◌, ◌≤◌}
+use Prim.Native.Nat.{◌≤◌}
 use native.Mathlib.Omega.{arith}
 use native.Mathlib.Nat.{mul-le-mul}
-use borrow.Author.Rules.{rules}
 use Rattle.dilation.proofs.widths.root_above.Goals as goal
 
 pub overflow_mul-w : goal.overflow_mul-w

@@ -1,6 +1,5 @@
 -- `dilation::window::shade` meets its contract. Assumes nothing.
 use native.Mathlib.Omega.{arith}
-use borrow.Author.Rules.{rules}
 use Rattle.dilation.proofs.window.shade.Goals as goal
 
 pub shade_rows-requires : goal.shade_rows-requires

@@ -1,7 +1,6 @@
 -- `dilation::window::shade_row` meets its contract. Assumes nothing.
 use native.Mathlib.Omega.{arith}
 use Rattle.dilation.proofs.ShadeLaws.{blank_covered}
-use borrow.Author.Rules.{rules}
 use Rattle.dilation.proofs.window.shade_row.Goals as goal
 
 pub cover_within-requires : goal.cover_within-requires

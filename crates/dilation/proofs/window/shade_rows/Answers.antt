@@ -9,7 +9,6 @@ use lib.ListN.{length, replicate, get_or-replicate}
 use Rattle.loops.proofs.CellLaws.{row_below}
 use Rattle.dilation.specs.Parts.{Shading}
 use Rattle.dilation.proofs.ShadeLaws.{shading_none, shading_skip, shading_told, shading_end, wide_then}
-use borrow.Author.Rules.{rules}
 use Rattle.dilation.proofs.window.shade_rows.Goals as goal
 use Rattle.dilation.proofs.window.shade_rows.Goals.{At-loop-j}
 

@@ -1,15 +1,8 @@
 -- `dilation::window::shade_rows` meets its contract. Assumes nothing.
-use mathlib.Core.Path.{◌≡◌, refl, ◌∙◌, subst}
-use mathlib.Core.Bool.{◌||◌}
-use Prim.Native.Nat.{ℕ, ◌+◌, ◌-◌, ◌*◌, ◌%◌, ◌≤◌, ◌<◌}
-use lib.Dec.{eqb}
-use Rattle.loops.proofs.Cases.{by_cases}
-use native.Mathlib.Omega.{arith}
-use lib.ListN.{length, replicate, get_or-replicate}
-use Rattle.loops.proofs.CellLaws.{row_below}
+use mathlib.Core.Path.{◌≡◌}
+use Prim.Native.Nat.{◌≤◌}
+use lib.ListN.{length}
 use Rattle.dilation.specs.Parts.{Shading}
-use Rattle.dilation.proofs.ShadeLaws.{shading_none, shading_skip, shading_told, shading_end, wide_then}
-use borrow.Author.Rules.{rules}
 use Rattle.dilation.proofs.window.shade_rows.Given as goal
 
 abbrev pub invariant-loop-j : goal.invariant-loop-j

@@ -1,7 +1,6 @@
 -- `dilation::window::tell_row` meets its contract. Assumes nothing.
 use mathlib.Core.Path.{refl, sym, ◌∙◌}
 use mathlib.Core.Bool.{true≢false}
-use borrow.Author.Rules.{rules}
 use Rattle.dilation.proofs.window.tell_row.Goals as goal
 
 pub returns-then-told : goal.returns-then-told

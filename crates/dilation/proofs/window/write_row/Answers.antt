@@ -1,12 +1,9 @@
 -- `dilation::window::write_row` meets its contract. Assumes nothing.
-use mathlib.Core.Path.{◌≡◌, refl, ◌∙◌}
-use Prim.Native.Nat.{◌+◌, ◌-◌, ◌≤◌}
+use mathlib.Core.Path.{refl, ◌∙◌}
+use Prim.Native.Nat.{◌+◌}
 use native.Mathlib.Omega.{arith}
-use lib.ListN.{length, get_or, length-set}
-use Rattle.distance.specs.Wrote.{Wrote}
+use lib.ListN.{length-set}
 use Rattle.distance.proofs.WroteLaws.{wrote_none, wrote_more, wrote-end}
-use Rattle.dilation.specs.Parts.{word_of}
-use borrow.Author.Rules.{rules}
 use Rattle.dilation.proofs.window.write_row.Goals as goal
 
 pub loop-k-init : goal.loop-k-init

@@ -1,14 +1,10 @@
 -- `distance::columns::down` meets its contract. The invariant: the cells before k are done. Assumes nothing.
-use mathlib.Core.Path.{◌≡◌, refl, ◌∙◌}
-use mathlib.Core.List.{List}
-use Prim.Native.Nat.{ℕ, ◌-◌, ◌≤◌, max}
+use mathlib.Core.Path.{refl, ◌∙◌}
 use native.Mathlib.Omega.{arith}
-use lib.ListN.{length, length-set}
+use lib.ListN.{length-set}
 use Rattle.distance.proofs.NumberLaws.{one-row}
-use Rattle.distance.specs.Column.{Down}
 use Rattle.distance.proofs.ColumnLaws.{down-same, step_down}
 use Rattle.distance.proofs.columns.down.Goals as goal
-use Rattle.distance.proofs.columns.down.Invariants.{Swept}
 
 pub loop-k-init : goal.loop-k-init
 loop-k-init c = record { high = omega arith; long = refl; down = c.requires.down; low = omega arith }

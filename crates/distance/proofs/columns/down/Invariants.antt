@@ -1,12 +1,9 @@
 -- `distance::columns::down` meets its contract. The invariant: the cells before k are done. Assumes nothing.
-use mathlib.Core.Path.{◌≡◌, refl, ◌∙◌}
+use mathlib.Core.Path.{◌≡◌}
 use mathlib.Core.List.{List}
-use Prim.Native.Nat.{ℕ, ◌-◌, ◌≤◌, max}
-use native.Mathlib.Omega.{arith}
-use lib.ListN.{length, length-set}
-use Rattle.distance.proofs.NumberLaws.{one-row}
+use Prim.Native.Nat.{ℕ, ◌≤◌, max}
+use lib.ListN.{length}
 use Rattle.distance.specs.Column.{Down}
-use Rattle.distance.proofs.ColumnLaws.{down-same, step_down}
 use Rattle.distance.proofs.columns.down.Given as goal
 
 pub record Swept (mark : ℕ) (marks : List ℕ) (nx cells : ℕ) (work₀ work : List ℕ) (k : ℕ) : Type 0 where

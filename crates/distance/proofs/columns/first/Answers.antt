@@ -1,13 +1,9 @@
 -- `distance::columns::first` meets its contract. The invariant: the cells before k are done. Assumes nothing.
-use mathlib.Core.Path.{◌≡◌, refl, ◌∙◌}
-use mathlib.Core.List.{List}
-use Prim.Native.Nat.{ℕ, ◌-◌, ◌≤◌}
+use mathlib.Core.Path.{refl, ◌∙◌}
 use native.Mathlib.Omega.{arith}
-use lib.ListN.{length, length-set}
-use Rattle.distance.specs.Column.{Down}
+use lib.ListN.{length-set}
 use Rattle.distance.proofs.ColumnLaws.{down-none, down-same, step-first}
 use Rattle.distance.proofs.columns.first.Goals as goal
-use Rattle.distance.proofs.columns.first.Invariants.{Swept}
 
 pub loop-k-init : goal.loop-k-init
 loop-k-init c = record { high = omega arith; long = refl; down = down-none _ _ _ _ }

@@ -1,7 +1,6 @@
 -- `distance::columns::from_above` meets its contract. Assumes nothing.
 use borrow.Author.Tests.{eq-eqb, ne_eqb, lt-ltb, le-ltb}
 use Rattle.distance.specs.Column.{lost}
-use borrow.Author.Rules.{rules}
 use Rattle.distance.proofs.columns.from_above.Goals as goal
 
 pub returns-then-byte-mark : goal.returns-then-byte-mark

@@ -1,6 +1,5 @@
 -- `distance::columns::from_below` meets its contract. Assumes nothing.
 use borrow.Author.Tests.{lt-ltb, le-ltb}
-use borrow.Author.Rules.{rules}
 use Rattle.distance.proofs.columns.from_below.Goals as goal
 
 pub returns-then-below-here : goal.returns-then-below-here

@@ -1,14 +1,11 @@
 -- `distance::columns::up` meets its contract. The invariant: the cells from k on hold the rows to the nearest mark. Assumes nothing.
 use mathlib.Core.Path.{◌≡◌, refl, sym, ap, ◌∙◌}
-use mathlib.Core.List.{List}
-use Prim.Native.Nat.{ℕ, ◌-◌, ◌≤◌, ◌+◌}
+use Prim.Native.Nat.{ℕ, ◌-◌, ◌+◌}
 use native.Mathlib.Omega.{arith}
-use lib.ListN.{length, length-set}
+use lib.ListN.{length-set}
 use Rattle.distance.proofs.NumberLaws.{one-row}
-use Rattle.distance.specs.Column.{Raised}
 use Rattle.distance.proofs.ColumnLaws.{raised_same, up_none, step-up}
 use Rattle.distance.proofs.columns.up.Goals as goal
-use Rattle.distance.proofs.columns.up.Invariants.{Swept}
 
 pub overflow_sub-k : goal.overflow_sub-k
 overflow_sub-k c = omega (arith, one-row c.args.nx c.args.ny c.requires.map_sides.row)

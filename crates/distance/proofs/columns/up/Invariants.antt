@@ -1,12 +1,9 @@
 -- `distance::columns::up` meets its contract. The invariant: the cells from k on hold the rows to the nearest mark. Assumes nothing.
-use mathlib.Core.Path.{◌≡◌, refl, sym, ap, ◌∙◌}
+use mathlib.Core.Path.{◌≡◌}
 use mathlib.Core.List.{List}
-use Prim.Native.Nat.{ℕ, ◌-◌, ◌≤◌, ◌+◌}
-use native.Mathlib.Omega.{arith}
-use lib.ListN.{length, length-set}
-use Rattle.distance.proofs.NumberLaws.{one-row}
+use Prim.Native.Nat.{ℕ, ◌-◌, ◌≤◌}
+use lib.ListN.{length}
 use Rattle.distance.specs.Column.{Raised}
-use Rattle.distance.proofs.ColumnLaws.{raised_same, up_none, step-up}
 use Rattle.distance.proofs.columns.up.Given as goal
 
 pub record Swept (nx ny cells : ℕ) (work₀ work : List ℕ) (k : ℕ) : Type 0 where

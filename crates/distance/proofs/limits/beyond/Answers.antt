@@ -1,7 +1,6 @@
 -- `distance::limits::beyond` meets its contract. Assumes nothing.
 use native.Mathlib.Omega.{arith}
 use Rattle.distance.proofs.LimitLaws.{beyond-is}
-use borrow.Author.Rules.{rules}
 use Rattle.distance.proofs.limits.beyond.Goals as goal
 
 pub returns-then-l : goal.returns-then-l

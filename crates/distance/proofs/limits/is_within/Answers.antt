@@ -1,7 +1,6 @@
 -- `distance::limits::is_within` meets its contract. Assumes nothing.
 use mathlib.Core.Path.{sym}
 use native.Mathlib.Omega.{arith}
-use borrow.Author.Rules.{rules}
 use Rattle.distance.proofs.limits.is_within.Goals as goal
 
 pub returns-then-l : goal.returns-then-l

@@ -1,6 +1,5 @@
 -- `distance::limits::length` meets its contract. Assumes nothing.
 use Rattle.distance.specs.Limits.{scaled_of}
-use borrow.Author.Rules.{rules}
 use Rattle.distance.proofs.limits.length.Goals as goal
 
 pub returns-then-b : goal.returns-then-b

@@ -1,5 +1,4 @@
 -- `distance::limits::limit_of` meets its contract. The invariant: the squares looked at are those near the guess. Assumes nothing.
-use Prim.Native.Nat.{◌-◌, ◌+◌, ◌≤◌}
 use native.Mathlib.Omega.{arith}
 use Rattle.distance.proofs.LimitLaws.{told, untold}
 use Rattle.distance.proofs.limits.limit_of.Goals as goal

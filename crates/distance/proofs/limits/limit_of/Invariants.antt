@@ -1,7 +1,5 @@
 -- `distance::limits::limit_of` meets its contract. The invariant: the squares looked at are those near the guess. Assumes nothing.
-use Prim.Native.Nat.{◌-◌, ◌+◌, ◌≤◌}
-use native.Mathlib.Omega.{arith}
-use Rattle.distance.proofs.LimitLaws.{told, untold}
+use Prim.Native.Nat.{◌+◌, ◌≤◌}
 use Rattle.distance.proofs.limits.limit_of.Given as goal
 
 abbrev pub invariant-loop-n : goal.invariant-loop-n

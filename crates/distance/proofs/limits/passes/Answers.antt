@@ -1,6 +1,5 @@
 -- `distance::limits::passes` meets its contract. Assumes nothing.
 use Rattle.distance.specs.Limits.{passes_of}
-use borrow.Author.Rules.{rules}
 use Rattle.distance.proofs.limits.passes.Goals as goal
 
 pub returns-then-b : goal.returns-then-b

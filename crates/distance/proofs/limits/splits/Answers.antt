@@ -2,7 +2,6 @@
 use mathlib.Core.Path.{sym, ◌∙◌}
 use native.Mathlib.Omega.{arith}
 use Rattle.loops.proofs.Cases.{never}
-use borrow.Author.Rules.{rules}
 use Rattle.distance.proofs.limits.splits.Goals as goal
 
 pub returns-then-passes : goal.returns-then-passes

@@ -4,7 +4,6 @@ use lib.Ieee.{nan_bits, of_bits, of_int, round}
 use Rattle.numbers.specs.Root.{root_of}
 use Rattle.distance.specs.Least.{far}
 use Rattle.distance.specs.Rooted.{rooted_of}
-use borrow.Author.Rules.{rules}
 use Rattle.distance.proofs.roots.distance_of.Goals as goal
 
 pub float_from_bits-result : goal.float_from_bits-result

@@ -1,13 +1,9 @@
 -- `distance::roots::distances` meets its contract. The invariant: the numbers before k are done. Assumes nothing.
-use mathlib.Core.Path.{◌≡◌, refl, ◌∙◌}
-use mathlib.Core.List.{List}
-use Prim.Native.Nat.{ℕ, ◌-◌, ◌≤◌}
+use mathlib.Core.Path.{refl, ◌∙◌}
 use native.Mathlib.Omega.{arith}
-use lib.ListN.{length, length-set}
-use lib.Ieee.{Float}
-use Rattle.distance.proofs.RootedLaws.{Rooted, rooted_none, rooted_more, rooted-same, distances_are}
+use lib.ListN.{length-set}
+use Rattle.distance.proofs.RootedLaws.{rooted_none, rooted_more, rooted-same, distances_are}
 use Rattle.distance.proofs.roots.distances.Goals as goal
-use Rattle.distance.proofs.roots.distances.Invariants.{Rooting}
 
 pub loop-k-init : goal.loop-k-init
 loop-k-init c = record { high = omega arith; long = refl; done = rooted_none _ _ }

@@ -1,11 +1,10 @@
 -- `distance::roots::distances` meets its contract. The invariant: the numbers before k are done. Assumes nothing.
-use mathlib.Core.Path.{◌≡◌, refl, ◌∙◌}
+use mathlib.Core.Path.{◌≡◌}
 use mathlib.Core.List.{List}
-use Prim.Native.Nat.{ℕ, ◌-◌, ◌≤◌}
-use native.Mathlib.Omega.{arith}
-use lib.ListN.{length, length-set}
+use Prim.Native.Nat.{ℕ, ◌≤◌}
+use lib.ListN.{length}
 use lib.Ieee.{Float}
-use Rattle.distance.proofs.RootedLaws.{Rooted, rooted_none, rooted_more, rooted-same, distances_are}
+use Rattle.distance.proofs.RootedLaws.{Rooted}
 use Rattle.distance.proofs.roots.distances.Given as goal
 
 pub record Rooting (n : ℕ) (q : List ℕ) (s t : List Float) (k : ℕ) : Type 0 where

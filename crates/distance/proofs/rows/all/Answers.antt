@@ -1,15 +1,11 @@
 -- `distance::rows::all` meets its contract. The invariant: the rows before j are done. Assumes nothing.
-use mathlib.Core.Path.{◌≡◌, refl, ◌∙◌}
-use mathlib.Core.List.{List}
-use Prim.Native.Nat.{ℕ, ◌-◌, ◌≤◌, ◌+◌, ◌*◌}
+use mathlib.Core.Path.{refl, ◌∙◌}
+use Prim.Native.Nat.{◌≤◌, ◌+◌, ◌*◌}
 use native.Mathlib.Omega.{arith}
-use lib.ListN.{length}
 use Rattle.loops.proofs.CellLaws.{row_below}
-use Rattle.distance.specs.Envelope.{RowsOf}
 use Rattle.distance.proofs.RowLaws.{rows_none, rows_more, rows_same}
 use Rattle.distance.proofs.rows.all.Goals as goal
 use Rattle.distance.proofs.rows.all.Goals.{In-loop-j}
-use Rattle.distance.proofs.rows.all.Invariants.{Done}
 
 -- row j lies before the scratch
 inside : (c : In-loop-j) → c.loop-j.j * c.args.nx + c.args.nx ≤ c.args.s

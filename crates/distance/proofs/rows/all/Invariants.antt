@@ -1,12 +1,9 @@
 -- `distance::rows::all` meets its contract. The invariant: the rows before j are done. Assumes nothing.
-use mathlib.Core.Path.{◌≡◌, refl, ◌∙◌}
+use mathlib.Core.Path.{◌≡◌}
 use mathlib.Core.List.{List}
-use Prim.Native.Nat.{ℕ, ◌-◌, ◌≤◌, ◌+◌, ◌*◌}
-use native.Mathlib.Omega.{arith}
+use Prim.Native.Nat.{ℕ, ◌≤◌}
 use lib.ListN.{length}
-use Rattle.loops.proofs.CellLaws.{row_below}
 use Rattle.distance.specs.Envelope.{RowsOf}
-use Rattle.distance.proofs.RowLaws.{rows_none, rows_more, rows_same}
 use Rattle.distance.proofs.rows.all.Given as goal
 
 pub record Done (nx ny s : ℕ) (work₀ work : List ℕ) (j : ℕ) : Type 0 where

@@ -1,15 +1,12 @@
 -- `distance::rows::envelope` meets its contract. The invariant: the stack is that of the parabolas before q. Assumes nothing.
-use mathlib.Core.Path.{◌≡◌, refl, sym, ap, ◌∙◌}
-use mathlib.Core.List.{List}
-use Prim.Native.Nat.{ℕ, ◌-◌, ◌+◌, ◌≤◌}
+use mathlib.Core.Path.{refl, sym, ap, ◌∙◌}
+use Prim.Native.Nat.{◌+◌}
 use native.Mathlib.Omega.{arith}
-use lib.ListN.{length}
-use Rattle.distance.specs.Envelope.{Keyed, Stack, Rest, row_keys, key_of}
+use Rattle.distance.specs.Envelope.{Keyed, row_keys, key_of}
 use Rattle.distance.proofs.EnvelopeLaws.{stack-none, stack_same, sound, rest-none, rest_trans}
 use Rattle.distance.proofs.RowLaws.{keyed, row-keys}
 use Rattle.distance.proofs.rows.envelope.Goals as goal
 use Rattle.distance.proofs.rows.envelope.Goals.{Start}
-use Rattle.distance.proofs.rows.envelope.Invariants.{Stacking}
 
 made : (c : Start) → Keyed (row_keys c.args.work.now c.args.base) c.args.nx
 made c = keyed c.args.work.now c.args.base _ _ c.requires.nx_bound (row-keys c.args.work.now c.args.base _)

@@ -1,12 +1,9 @@
 -- `distance::rows::envelope` meets its contract. The invariant: the stack is that of the parabolas before q. Assumes nothing.
-use mathlib.Core.Path.{◌≡◌, refl, sym, ap, ◌∙◌}
+use mathlib.Core.Path.{◌≡◌}
 use mathlib.Core.List.{List}
-use Prim.Native.Nat.{ℕ, ◌-◌, ◌+◌, ◌≤◌}
-use native.Mathlib.Omega.{arith}
+use Prim.Native.Nat.{ℕ, ◌≤◌}
 use lib.ListN.{length}
-use Rattle.distance.specs.Envelope.{Keyed, Stack, Rest, row_keys, key_of}
-use Rattle.distance.proofs.EnvelopeLaws.{stack-none, stack_same, sound, rest-none, rest_trans}
-use Rattle.distance.proofs.RowLaws.{keyed, row-keys}
+use Rattle.distance.specs.Envelope.{Stack, Rest, row_keys}
 use Rattle.distance.proofs.rows.envelope.Given as goal
 
 pub record Stacking (base s nx : ℕ) (work₀ work : List ℕ) (n q : ℕ) : Type 0 where

@@ -3,12 +3,11 @@ use mathlib.Core.Path.{◌≡◌, refl, ◌∙◌}
 use mathlib.Core.List.{List}
 use Prim.Native.Nat.{ℕ, ◌-◌, ◌+◌, ◌*◌, ◌≤◌}
 use native.Mathlib.Omega.{arith}
-use lib.ListN.{length, get_or}
-use Rattle.distance.specs.Envelope.{Entry, Filled}
-use Rattle.distance.proofs.RowLaws.{Edge, edge_same, entry-same, edge_le, filled_none, filled_more, filled-all}
+use lib.ListN.{get_or}
+use Rattle.distance.specs.Envelope.{Entry}
+use Rattle.distance.proofs.RowLaws.{edge_same, entry-same, edge_le, filled_none, filled_more, filled-all}
 use Rattle.distance.proofs.rows.fill.Goals as goal
 use Rattle.distance.proofs.rows.fill.Goals.{In-loop-k}
-use Rattle.distance.proofs.rows.fill.Invariants.{Filling}
 
 -- the parabola of this turn, as it was on entry and as it is read
 module _ (c : In-loop-k) where

@@ -1,11 +1,10 @@
 -- `distance::rows::fill` meets its contract. The invariant: the regions from k on are written. Assumes nothing.
-use mathlib.Core.Path.{◌≡◌, refl, ◌∙◌}
+use mathlib.Core.Path.{◌≡◌}
 use mathlib.Core.List.{List}
-use Prim.Native.Nat.{ℕ, ◌-◌, ◌+◌, ◌*◌, ◌≤◌}
-use native.Mathlib.Omega.{arith}
+use Prim.Native.Nat.{ℕ, ◌+◌, ◌≤◌}
 use lib.ListN.{length, get_or}
-use Rattle.distance.specs.Envelope.{Entry, Filled}
-use Rattle.distance.proofs.RowLaws.{Edge, edge_same, entry-same, edge_le, filled_none, filled_more, filled-all}
+use Rattle.distance.specs.Envelope.{Filled}
+use Rattle.distance.proofs.RowLaws.{Edge}
 use Rattle.distance.proofs.rows.fill.Given as goal
 
 pub record Filling (base s nx n : ℕ) (work₀ work : List ℕ) (k e : ℕ) : Type 0 where

@@ -3,7 +3,6 @@ use mathlib.Core.Path.{sym, ap}
 use Prim.Native.Nat.{ℕ, ◌*◌, ◌/◌, ◌+◌}
 use native.Mathlib.Nat.{div-le_self}
 use native.Mathlib.Omega.{arith}
-use borrow.Author.Rules.{rules}
 use Rattle.distance.proofs.rows.meet.Goals as goal
 
 pub returns-then-d-eq1 : goal.returns-then-d-eq1

@@ -6,7 +6,6 @@ use lib.ListN.{get_or}
 use Rattle.distance.proofs.NumberLaws.{product}
 use Rattle.distance.proofs.EnvelopeLaws.{taken-same, taken_skip, rest-none}
 use Rattle.distance.proofs.RowLaws.{key-near, key-lost}
-use borrow.Author.Rules.{rules}
 use Rattle.distance.proofs.rows.place.Goals as goal
 use Rattle.distance.proofs.rows.place.Goals.{Then-d-lt-NONE}
 

@@ -3,7 +3,7 @@ use Prim.Native.Nat.{◌-◌, ◌*◌, ◌≤◌, ◌<◌}
 use native.Mathlib.Omega.{arith}
 use Rattle.distance.specs.Envelope.{Entry, begins, column}
 use Rattle.distance.proofs.NumberLaws.{product}
-use Rattle.distance.proofs.EnvelopeLaws.{Beaten, popped_none, popped_more, popped_end, popped_all}
+use Rattle.distance.proofs.EnvelopeLaws.{popped_none, popped_more, popped_end, popped_all}
 use Rattle.distance.proofs.rows.pop.Goals as goal
 use Rattle.distance.proofs.rows.pop.Goals.{In-loop-r}
 

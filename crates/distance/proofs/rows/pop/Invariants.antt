@@ -1,9 +1,5 @@
 -- `distance::rows::pop` meets its contract. The invariant: those from r on are beaten. Assumes nothing.
-use Prim.Native.Nat.{◌-◌, ◌*◌, ◌≤◌, ◌<◌}
-use native.Mathlib.Omega.{arith}
-use Rattle.distance.specs.Envelope.{Entry, begins, column}
-use Rattle.distance.proofs.NumberLaws.{product}
-use Rattle.distance.proofs.EnvelopeLaws.{Beaten, popped_none, popped_more, popped_end, popped_all}
+use Rattle.distance.proofs.EnvelopeLaws.{Beaten}
 use Rattle.distance.proofs.rows.pop.Given as goal
 
 abbrev pub invariant-loop-r : goal.invariant-loop-r

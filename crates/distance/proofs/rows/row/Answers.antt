@@ -2,7 +2,6 @@
 use native.Mathlib.Omega.{arith}
 use Rattle.distance.proofs.EnvelopeLaws.{sound}
 use Rattle.distance.proofs.RowLaws.{keyed, row-keys, row-filled, row-blank}
-use borrow.Author.Rules.{rules}
 use Rattle.distance.proofs.rows.row.Goals as goal
 
 pub fill-requires : goal.fill-requires

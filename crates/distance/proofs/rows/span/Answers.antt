@@ -1,16 +1,12 @@
 -- `distance::rows::span` meets its contract. The invariant: the places before x are written. Assumes nothing.
-use mathlib.Core.Path.{◌≡◌, refl, ◌∙◌}
-use mathlib.Core.List.{List}
-use Prim.Native.Nat.{ℕ, ◌-◌, ◌≤◌, ◌<◌, ◌+◌, ◌*◌, max}
+use mathlib.Core.Path.{refl, ◌∙◌}
+use Prim.Native.Nat.{◌≤◌, ◌<◌, ◌+◌, ◌*◌}
 use native.Mathlib.Omega.{arith}
-use lib.ListN.{length, length-set}
-use Rattle.distance.specs.Wrote.{Wrote}
-use Rattle.distance.specs.Envelope.{height_of}
+use lib.ListN.{length-set}
 use Rattle.distance.proofs.NumberLaws.{product, gap-square}
 use Rattle.distance.proofs.WroteLaws.{wrote_none, wrote_more, wrote-end}
 use Rattle.distance.proofs.rows.span.Goals as goal
 use Rattle.distance.proofs.rows.span.Goals.{In-loop-x}
-use Rattle.distance.proofs.rows.span.Invariants.{Writing}
 
 -- the products of a turn
 products : (c : In-loop-x) → (c.loop-x.x * c.loop-x.x ≤ 16769025) × (c.loop-x.x * c.args.p ≤ 16769025)

@@ -1,13 +1,10 @@
 -- `distance::rows::span` meets its contract. The invariant: the places before x are written. Assumes nothing.
-use mathlib.Core.Path.{◌≡◌, refl, ◌∙◌}
+use mathlib.Core.Path.{◌≡◌}
 use mathlib.Core.List.{List}
-use Prim.Native.Nat.{ℕ, ◌-◌, ◌≤◌, ◌<◌, ◌+◌, ◌*◌, max}
-use native.Mathlib.Omega.{arith}
-use lib.ListN.{length, length-set}
+use Prim.Native.Nat.{ℕ, ◌≤◌, max}
+use lib.ListN.{length}
 use Rattle.distance.specs.Wrote.{Wrote}
 use Rattle.distance.specs.Envelope.{height_of}
-use Rattle.distance.proofs.NumberLaws.{product, gap-square}
-use Rattle.distance.proofs.WroteLaws.{wrote_none, wrote_more, wrote-end}
 use Rattle.distance.proofs.rows.span.Given as goal
 
 pub record Writing (base p key a e : ℕ) (work₀ work : List ℕ) (x : ℕ) : Type 0 where

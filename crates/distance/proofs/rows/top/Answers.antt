@@ -3,7 +3,6 @@ use Prim.Native.Nat.{◌-◌, ◌≤◌}
 use native.Mathlib.Omega.{arith}
 use Rattle.distance.specs.Envelope.{Entry, key_at}
 use Rattle.distance.proofs.EnvelopeLaws.{taken-first, taken-top, taken_none, key_le, rest-none, rest-top}
-use borrow.Author.Rules.{rules}
 use Rattle.distance.proofs.rows.top.Goals as goal
 use Rattle.distance.proofs.rows.top.Goals.{Else-r-eq0}
 

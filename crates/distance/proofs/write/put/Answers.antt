@@ -1,13 +1,10 @@
 -- `distance::write::put` meets its contract. The invariant: the places before k are written. Assumes nothing.
-use mathlib.Core.Path.{◌≡◌, refl, ◌∙◌}
-use mathlib.Core.List.{List}
-use Prim.Native.Nat.{ℕ, ◌-◌, ◌≤◌, ◌+◌}
+use mathlib.Core.Path.{refl, ◌∙◌}
+use Prim.Native.Nat.{◌+◌}
 use native.Mathlib.Omega.{arith}
-use lib.ListN.{length, length-set}
-use Rattle.distance.specs.Wrote.{Wrote}
+use lib.ListN.{length-set}
 use Rattle.distance.proofs.WroteLaws.{wrote_none, wrote_more, wrote-end}
 use Rattle.distance.proofs.write.put.Goals as goal
-use Rattle.distance.proofs.write.put.Invariants.{Writing}
 
 pub loop-k-init : goal.loop-k-init
 loop-k-init c = record { high = omega arith; long = refl; wrote = wrote_none _ _ _ _ }

@@ -1,11 +1,9 @@
 -- `distance::write::put` meets its contract. The invariant: the places before k are written. Assumes nothing.
-use mathlib.Core.Path.{◌≡◌, refl, ◌∙◌}
+use mathlib.Core.Path.{◌≡◌}
 use mathlib.Core.List.{List}
-use Prim.Native.Nat.{ℕ, ◌-◌, ◌≤◌, ◌+◌}
-use native.Mathlib.Omega.{arith}
-use lib.ListN.{length, length-set}
+use Prim.Native.Nat.{ℕ, ◌≤◌}
+use lib.ListN.{length}
 use Rattle.distance.specs.Wrote.{Wrote}
-use Rattle.distance.proofs.WroteLaws.{wrote_none, wrote_more, wrote-end}
 use Rattle.distance.proofs.write.put.Given as goal
 
 pub record Writing (start n v : ℕ) (work₀ work : List ℕ) (k : ℕ) : Type 0 where

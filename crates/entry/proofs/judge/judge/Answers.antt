@@ -4,7 +4,6 @@ use native.Mathlib.Omega.{arith}
 use borrow.Author.Tests.{eq-eqb, ne_eqb}
 use Rattle.entry.specs.Questions.{first_six, next_six, last_three, job_grid, refusal_of, judged_of}
 use Rattle.entry.proofs.FirstLaws.{first-all, by_first, by_next, by_last}
-use borrow.Author.Rules.{rules}
 use Rattle.entry.proofs.judge.judge.Goals as goal
 
 pub returns-then-a-ne0 : goal.returns-then-a-ne0

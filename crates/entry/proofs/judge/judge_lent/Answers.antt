@@ -1,6 +1,5 @@
 -- `entry::judge::judge_lent` meets its contract. Assumes nothing.
 use mathlib.Core.Path.{sym, ◌∙◌}
-use borrow.Author.Rules.{rules}
 use Rattle.entry.proofs.judge.judge_lent.Goals as goal
 
 pub returns-then-lent_fits : goal.returns-then-lent_fits

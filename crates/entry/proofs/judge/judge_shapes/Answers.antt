@@ -1,7 +1,5 @@
 -- `entry::judge::judge_shapes` meets its contract. Assumes nothing.
 use mathlib.Core.Path.{sym, ◌∙◌}
-use borrow.Author.Rules.{rules}
-use borrow.Author.Tests.{not-true, not-false}
 use Rattle.raster.specs.declared.grid.Grid.{Grid}
 use Rattle.entry.specs.Questions.{lent_fit}
 use Rattle.entry.proofs.FirstLaws.{is_13, is_14, is_last}

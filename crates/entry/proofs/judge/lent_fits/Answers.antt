@@ -1,7 +1,6 @@
 -- `entry::judge::lent_fits` meets its contract. Assumes nothing.
 use mathlib.Core.Path.{refl}
 use Rattle.entry.specs.Questions.{lent_fit}
-use borrow.Author.Rules.{rules}
 use Rattle.entry.proofs.judge.lent_fits.Goals as goal
 
 pub returns : goal.returns

@@ -1,7 +1,6 @@
 -- `entry::judge::pocket_of` meets its contract. Assumes nothing.
 use native.Mathlib.Omega.{arith}
 use Rattle.entry.proofs.RegionsLaws.{pocket_is}
-use borrow.Author.Rules.{rules}
 use Rattle.entry.proofs.judge.pocket_of.Goals as goal
 
 pub overflow_cast-result : goal.overflow_cast-result

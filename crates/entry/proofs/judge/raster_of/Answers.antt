@@ -2,7 +2,6 @@
 use mathlib.Core.Path.{sym, subst}
 use Rattle.geom.specs.Region.{Held}
 use Rattle.entry.proofs.RasterLaws.{raster_is}
-use borrow.Author.Rules.{rules}
 use Rattle.entry.proofs.judge.raster_of.Goals as goal
 
 pub bounds-c-requires : goal.bounds-c-requires

@@ -1,6 +1,5 @@
 -- `entry::params::helix_of` meets its contract. Assumes nothing.
 use Rattle.entry.specs.Questions.{helix_of, given_or}
-use borrow.Author.Rules.{rules}
 use Rattle.entry.proofs.params.helix_of.Goals as goal
 
 pub returns-in-Given : goal.returns-in-Given

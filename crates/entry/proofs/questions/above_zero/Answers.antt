@@ -1,7 +1,6 @@
 -- `entry::questions::above_zero` meets its contract. Assumes nothing.
 use Rattle.entry.specs.Questions.{above_zero}
 use mathlib.Core.Path.{refl}
-use borrow.Author.Rules.{rules}
 use Rattle.entry.proofs.questions.above_zero.Goals as goal
 
 pub returns : goal.returns

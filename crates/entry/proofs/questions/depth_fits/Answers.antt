@@ -1,7 +1,6 @@
 -- `entry::questions::depth_fits` meets its contract. Assumes nothing.
 use Rattle.entry.specs.Questions.{depth_fit}
 use mathlib.Core.Path.{refl}
-use borrow.Author.Rules.{rules}
 use Rattle.entry.proofs.questions.depth_fits.Goals as goal
 
 pub returns : goal.returns

@@ -1,7 +1,6 @@
 -- `entry::questions::engagement_fits` meets its contract. Assumes nothing.
 use Rattle.entry.specs.Questions.{engagement_fit}
 use mathlib.Core.Path.{refl}
-use borrow.Author.Rules.{rules}
 use Rattle.entry.proofs.questions.engagement_fits.Goals as goal
 
 pub returns : goal.returns

@@ -1,7 +1,6 @@
 -- `entry::questions::feeds_fit` meets its contract. Assumes nothing.
 use Rattle.entry.specs.Questions.{feeds_fit}
 use mathlib.Core.Path.{refl}
-use borrow.Author.Rules.{rules}
 use Rattle.entry.proofs.questions.feeds_fit.Goals as goal
 
 pub returns : goal.returns

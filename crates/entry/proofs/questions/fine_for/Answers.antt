@@ -1,7 +1,6 @@
 -- `entry::questions::fine_for` meets its contract. Assumes nothing.
 use Rattle.entry.specs.Questions.{fine_for}
 use mathlib.Core.Path.{refl}
-use borrow.Author.Rules.{rules}
 use Rattle.entry.proofs.questions.fine_for.Goals as goal
 
 pub returns : goal.returns

@@ -1,8 +1,6 @@
 -- `entry::questions::first_six` meets its contract. Assumes nothing.
 use mathlib.Core.Path.{◌≡◌, sym, ◌∙◌}
 use mathlib.Core.Bool.{true}
-use borrow.Author.Rules.{rules}
-use borrow.Author.Tests.{not-true, not-false}
 use Rattle.entry.specs.Questions.{diameter_fit, engagement_fit, step_down_fit, depth_fit, leave_fit, safe_fit, first_no}
 use Rattle.entry.proofs.questions.first_six.Goals as goal
 use Rattle.entry.proofs.questions.first_six.Goals.{Else-not-depth_fits, Else-not-diameter_fits, Else-not-engagement_fits, Else-not-leave_fits, Else-not-safe_fits, Else-not-step_down_fits}

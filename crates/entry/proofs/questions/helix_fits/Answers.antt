@@ -1,6 +1,5 @@
 -- `entry::questions::helix_fits` meets its contract. Assumes nothing.
 use Rattle.entry.specs.Questions.{helix_fit, absent_or}
-use borrow.Author.Rules.{rules}
 use Rattle.entry.proofs.questions.helix_fits.Goals as goal
 
 pub returns-in-Given : goal.returns-in-Given

@@ -1,6 +1,5 @@
 -- `entry::questions::is_short` meets its contract. Assumes nothing.
 use Rattle.entry.specs.Questions.{absent_or, at_most1000}
-use borrow.Author.Rules.{rules}
 use Rattle.entry.proofs.questions.is_short.Goals as goal
 
 pub returns-in-Given : goal.returns-in-Given

@@ -1,7 +1,6 @@
 -- `entry::questions::leave_fits` meets its contract. Assumes nothing.
 use Rattle.entry.specs.Questions.{leave_fit}
 use mathlib.Core.Path.{refl}
-use borrow.Author.Rules.{rules}
 use Rattle.entry.proofs.questions.leave_fits.Goals as goal
 
 pub returns : goal.returns

@@ -1,8 +1,6 @@
 -- `entry::questions::next_six` meets its contract. Assumes nothing.
 use mathlib.Core.Path.{◌≡◌, sym, ◌∙◌}
 use mathlib.Core.Bool.{true}
-use borrow.Author.Rules.{rules}
-use borrow.Author.Tests.{not-true, not-false}
 use Rattle.entry.specs.Questions.{feeds_fit, ramp_fit, helix_fit, thinning_fit, resolution_fit, ranges_fit, first_no}
 use Rattle.entry.proofs.questions.next_six.Goals as goal
 use Rattle.entry.proofs.questions.next_six.Goals.{Else-not-feeds_fit, Else-not-helix_fits, Else-not-ramp_fits, Else-not-ranges_fit, Else-not-resolution_fits, Else-not-thinning_fits}

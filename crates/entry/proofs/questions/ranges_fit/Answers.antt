@@ -1,7 +1,6 @@
 -- `entry::questions::ranges_fit` meets its contract. Assumes nothing.
 use Rattle.entry.specs.Questions.{ranges_fit}
 use mathlib.Core.Path.{refl}
-use borrow.Author.Rules.{rules}
 use Rattle.entry.proofs.questions.ranges_fit.Goals as goal
 
 pub returns : goal.returns

@@ -1,6 +1,5 @@
 -- `entry::questions::resolution_fits` meets its contract. Assumes nothing.
 use Rattle.entry.specs.Questions.{resolution_fit, absent_or}
-use borrow.Author.Rules.{rules}
 use Rattle.entry.proofs.questions.resolution_fits.Goals as goal
 
 pub returns-in-Given : goal.returns-in-Given

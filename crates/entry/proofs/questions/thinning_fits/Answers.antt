@@ -1,6 +1,5 @@
 -- `entry::questions::thinning_fits` meets its contract. Assumes nothing.
 use Rattle.entry.specs.Questions.{thinning_fit, absent_or}
-use borrow.Author.Rules.{rules}
 use Rattle.entry.proofs.questions.thinning_fits.Goals as goal
 
 pub returns-in-Given : goal.returns-in-Given

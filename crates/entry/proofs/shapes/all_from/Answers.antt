@@ -1,12 +1,9 @@
 -- `entry::shapes::all_from` meets its contract. Assumes nothing.
 use mathlib.Core.Path.{ap}
-use mathlib.Core.Bool.{false, not}
-use Prim.Native.Nat.{◌-◌}
+use mathlib.Core.Bool.{not}
 use native.Mathlib.Omega.{arith}
-use Rattle.loops.specs.Loop.{or_at}
-use Rattle.loops.proofs.LoopLaws.{Going, going_none, any-on, any_out, any_none}
-use Rattle.entry.specs.Questions.{outside, all_from}
-use borrow.Author.Rules.{rules}
+use Rattle.loops.proofs.LoopLaws.{going_none, any-on, any_out, any_none}
+use Rattle.entry.specs.Questions.{all_from}
 use Rattle.entry.proofs.shapes.all_from.Goals as goal
 
 pub loop-k-init : goal.loop-k-init

@@ -1,12 +1,8 @@
 -- `entry::shapes::all_from` meets its contract. Assumes nothing.
-use mathlib.Core.Path.{ap}
-use mathlib.Core.Bool.{false, not}
-use Prim.Native.Nat.{◌-◌}
-use native.Mathlib.Omega.{arith}
+use mathlib.Core.Bool.{false}
 use Rattle.loops.specs.Loop.{or_at}
-use Rattle.loops.proofs.LoopLaws.{Going, going_none, any-on, any_out, any_none}
-use Rattle.entry.specs.Questions.{outside, all_from}
-use borrow.Author.Rules.{rules}
+use Rattle.loops.proofs.LoopLaws.{Going}
+use Rattle.entry.specs.Questions.{outside}
 use Rattle.entry.proofs.shapes.all_from.Given as goal
 
 abbrev pub invariant-loop-k : goal.invariant-loop-k

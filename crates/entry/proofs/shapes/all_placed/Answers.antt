@@ -1,11 +1,8 @@
 -- `entry::shapes::all_placed` meets its contract. Assumes nothing.
 use mathlib.Core.Path.{sym, ap, ◌∙◌}
-use mathlib.Core.Bool.{not, false, not}
-use Prim.Native.Nat.{◌-◌}
-use Rattle.loops.specs.Loop.{or_at}
-use Rattle.loops.proofs.LoopLaws.{Going, going_none, any-on, any_out, any_none}
-use Rattle.entry.specs.Questions.{astray, all_placed}
-use borrow.Author.Rules.{rules}
+use mathlib.Core.Bool.{not, not}
+use Rattle.loops.proofs.LoopLaws.{going_none, any-on, any_out, any_none}
+use Rattle.entry.specs.Questions.{all_placed}
 use Rattle.entry.proofs.shapes.all_placed.Goals as goal
 
 pub loop-k-init : goal.loop-k-init

@@ -1,11 +1,8 @@
 -- `entry::shapes::all_placed` meets its contract. Assumes nothing.
-use mathlib.Core.Path.{sym, ap, ◌∙◌}
-use mathlib.Core.Bool.{false, not}
-use Prim.Native.Nat.{◌-◌}
+use mathlib.Core.Bool.{false}
 use Rattle.loops.specs.Loop.{or_at}
-use Rattle.loops.proofs.LoopLaws.{Going, going_none, any-on, any_out, any_none}
-use Rattle.entry.specs.Questions.{astray, all_placed}
-use borrow.Author.Rules.{rules}
+use Rattle.loops.proofs.LoopLaws.{Going}
+use Rattle.entry.specs.Questions.{astray}
 use Rattle.entry.proofs.shapes.all_placed.Given as goal
 
 abbrev pub invariant-loop-k : goal.invariant-loop-k

@@ -1,7 +1,6 @@
 -- `entry::shapes::counts_fit` meets its contract. Assumes nothing.
 use native.Mathlib.Omega.{arith}
 use Rattle.entry.proofs.ShapeLaws.{counts_few, counts_none, counts_odd, counts_sum}
-use borrow.Author.Rules.{rules}
 use Rattle.entry.proofs.shapes.counts_fit.Goals as goal
 
 pub sum-requires : goal.sum-requires

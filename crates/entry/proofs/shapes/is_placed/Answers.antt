@@ -1,7 +1,6 @@
 -- `entry::shapes::is_placed` meets its contract. Assumes nothing.
 use Rattle.entry.specs.Questions.{placed}
 use mathlib.Core.Path.{refl}
-use borrow.Author.Rules.{rules}
 use Rattle.entry.proofs.shapes.is_placed.Goals as goal
 
 pub returns : goal.returns

@@ -1,7 +1,6 @@
 -- `entry::shapes::shapes_fit` meets its contract. Assumes nothing.
 use mathlib.Core.Path.{sym, ◌∙◌}
 use Rattle.entry.proofs.ShapeLaws.{few_loops, shapes_odd, shapes_not, shapes_placed}
-use borrow.Author.Rules.{rules}
 use Rattle.entry.proofs.shapes.shapes_fit.Goals as goal
 
 pub vertices_fit-requires : goal.vertices_fit-requires

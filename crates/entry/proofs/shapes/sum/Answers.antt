@@ -1,11 +1,8 @@
 -- `entry::shapes::sum` meets its contract. Assumes nothing.
 use mathlib.Core.Path.{refl}
-use Prim.Native.Nat.{◌+◌, ◌-◌, ◌*◌, ◌≤◌}
 use native.Mathlib.Omega.{arith}
-use lib.ListN.{get_or}
-use Rattle.loops.proofs.LoopLaws.{Going, going_none, going_more, going_end}
+use Rattle.loops.proofs.LoopLaws.{going_none, going_more, going_end}
 use Rattle.entry.specs.Regions.{sum_to}
-use borrow.Author.Rules.{rules}
 use Rattle.entry.proofs.shapes.sum.Goals as goal
 
 pub loop-k-init : goal.loop-k-init

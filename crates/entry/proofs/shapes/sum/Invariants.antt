@@ -1,11 +1,7 @@
 -- `entry::shapes::sum` meets its contract. Assumes nothing.
-use mathlib.Core.Path.{refl}
-use Prim.Native.Nat.{◌+◌, ◌-◌, ◌*◌, ◌≤◌}
-use native.Mathlib.Omega.{arith}
+use Prim.Native.Nat.{◌+◌, ◌*◌, ◌≤◌}
 use lib.ListN.{get_or}
-use Rattle.loops.proofs.LoopLaws.{Going, going_none, going_more, going_end}
-use Rattle.entry.specs.Regions.{sum_to}
-use borrow.Author.Rules.{rules}
+use Rattle.loops.proofs.LoopLaws.{Going}
 use Rattle.entry.proofs.shapes.sum.Given as goal
 
 abbrev pub invariant-loop-k : goal.invariant-loop-k

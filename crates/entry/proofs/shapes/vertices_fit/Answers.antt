@@ -1,6 +1,5 @@
 -- `entry::shapes::vertices_fit` meets its contract. Assumes nothing.
 use Rattle.entry.proofs.ShapeLaws.{vertices_odd, vertices_many, vertices-sum}
-use borrow.Author.Rules.{rules}
 use Rattle.entry.proofs.shapes.vertices_fit.Goals as goal
 
 pub returns-then-n-le4096 : goal.returns-then-n-le4096

@@ -1,7 +1,6 @@
 -- `events::list::put_row` meets its contract. Assumes nothing.
 use native.Mathlib.Omega.{arith}
 use lib.ListN.{length-set}
-use borrow.Author.Rules.{rules}
 use Rattle.events.proofs.list.put_row.Goals as goal
 
 pub bounds-rows-at-2 : goal.bounds-rows-at-2

@@ -1,7 +1,6 @@
 -- `events::list::put_triple` meets its contract. Assumes nothing.
 use native.Mathlib.Omega.{arith}
 use lib.ListN.{length-set}
-use borrow.Author.Rules.{rules}
 use Rattle.events.proofs.list.put_triple.Goals as goal
 
 pub bounds-triples-at-2 : goal.bounds-triples-at-2

@@ -1,7 +1,6 @@
 -- `events::list::read_one` meets its contract. Assumes nothing.
 use borrow.Author.Tests.{eq-eqb, ne_eqb}
 use Rattle.events.specs.Read.{read_one}
-use borrow.Author.Rules.{rules}
 use Rattle.events.proofs.list.read_one.Goals as goal
 
 pub returns-then-kind-eq1 : goal.returns-then-kind-eq1

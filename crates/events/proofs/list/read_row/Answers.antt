@@ -3,7 +3,6 @@ use native.Mathlib.Omega.{arith}
 use Prim.Native.Nat.{◌+◌, ◌*◌}
 use borrow.Author.Tests.{eq-eqb, ne_eqb, lt-ltb, le-ltb}
 use Rattle.events.specs.Read.{read_whole, read_at}
-use borrow.Author.Rules.{rules}
 use Rattle.events.proofs.list.read_row.Goals as goal
 
 pub overflow_cast-n : goal.overflow_cast-n

@@ -1,6 +1,5 @@
 -- `field::band::around` meets its contract. Assumes nothing.
 use Rattle.field.proofs.BandLaws.{around_none, around_some}
-use borrow.Author.Rules.{rules}
 use Rattle.field.proofs.band.around.Goals as goal
 
 pub returns-then-rows-cols : goal.returns-then-rows-cols

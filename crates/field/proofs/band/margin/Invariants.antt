@@ -1,10 +1,5 @@
 -- `field::band::margin` meets its contract. Assumes nothing.
-use Prim.Native.Nat.{◌+◌, ◌-◌, ◌≤◌}
-use native.Mathlib.Omega.{arith}
-use native.Mathlib.Nat.{mul-le-mul}
-use Rattle.loops.proofs.Cases.{never}
-use mathlib.Core.Path.{sym, ◌∙◌}
-use Rattle.field.proofs.BandLaws.{margin_all, margin_at}
+use Prim.Native.Nat.{◌≤◌}
 use Rattle.field.proofs.band.margin.Given as goal
 
 abbrev pub invariant-loop-m : goal.invariant-loop-m

@@ -1,6 +1,5 @@
 -- `field::band::marked_columns` meets its contract. Assumes nothing.
 use Rattle.field.proofs.BandLaws.{columns_are}
-use borrow.Author.Rules.{rules}
 use Rattle.field.proofs.band.marked_columns.Goals as goal
 
 pub returns : goal.returns

@@ -3,7 +3,6 @@ use Prim.Native.Nat.{◌-◌}
 use native.Mathlib.Omega.{arith}
 use native.Mathlib.Nat.{div-le_self}
 use Rattle.field.proofs.BandLaws.{marked-none, marked-some}
-use borrow.Author.Rules.{rules}
 use Rattle.field.proofs.band.marked_rows.Goals as goal
 
 pub overflow_add-result : goal.overflow_add-result

@@ -1,7 +1,6 @@
 -- `field::band::widen` meets its contract. Assumes nothing.
 use native.Mathlib.Omega.{arith}
 use Rattle.field.proofs.BandLaws.{widened_is}
-use borrow.Author.Rules.{rules}
 use Rattle.field.proofs.band.widen.Goals as goal
 
 pub returns : goal.returns

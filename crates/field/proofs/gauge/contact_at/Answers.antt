@@ -2,7 +2,6 @@
 use mathlib.Core.Path.{sym, subst}
 use Prim.Native.Nat.{ℕ}
 use native.Mathlib.Omega.{arith}
-use borrow.Author.Rules.{rules}
 use Rattle.raster.specs.Contact.{samples_of}
 use Rattle.raster.proofs.ContactLaws.{contact-is}
 use Rattle.rims.specs.Offsets.{Rims}

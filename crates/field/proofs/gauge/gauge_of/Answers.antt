@@ -1,7 +1,6 @@
 -- `field::gauge::gauge_of` meets its contract. Assumes nothing.
 use mathlib.Core.Path.{refl}
 use Rattle.field.proofs.GaugeLaws.{gauged}
-use borrow.Author.Rules.{rules}
 use Rattle.field.proofs.gauge.gauge_of.Goals as goal
 
 pub returns : goal.returns

@@ -1,7 +1,6 @@
 -- `field::gauge::is_sampled` meets its contract. Assumes nothing.
 use mathlib.Core.Path.{ap}
 use Rattle.distance.specs.declared.limits.Threshold.{Threshold}
-use borrow.Author.Rules.{rules}
 use Rattle.field.proofs.gauge.is_sampled.Goals as goal
 
 pub beyond-requires : goal.beyond-requires

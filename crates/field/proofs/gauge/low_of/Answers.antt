@@ -1,7 +1,6 @@
 -- `field::gauge::low_of` meets its contract. Assumes nothing.
 use mathlib.Core.Path.{refl}
 use Rattle.field.specs.Field.{low_of}
-use borrow.Author.Rules.{rules}
 use Rattle.field.proofs.gauge.low_of.Goals as goal
 
 pub returns : goal.returns

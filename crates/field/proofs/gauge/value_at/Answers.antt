@@ -4,7 +4,6 @@ use native.Mathlib.Omega.{arith}
 use Rattle.distance.specs.declared.limits.Threshold.{Threshold}
 use Rattle.raster.proofs.GridLaws.{number-below}
 use Rattle.field.proofs.GaugeLaws.{value-far, value-deep, value-sampled}
-use borrow.Author.Rules.{rules}
 use Rattle.field.proofs.gauge.value_at.Goals as goal
 
 pub overflow_mul-square : goal.overflow_mul-square

@@ -1,7 +1,6 @@
 -- `field::gauge::wanted` meets its contract. Assumes nothing.
 use borrow.Author.Tests.{eq-eqb, ne_eqb}
 use Rattle.field.proofs.GaugeLaws.{wanted_not, wanted-all, wanted-near}
-use borrow.Author.Rules.{rules}
 use Rattle.field.proofs.gauge.wanted.Goals as goal
 
 pub returns-then-g : goal.returns-then-g

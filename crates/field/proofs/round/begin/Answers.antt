@@ -1,7 +1,6 @@
 -- `field::round::begin` meets its contract. Assumes nothing.
 use lib.Ieee.{div, of_bits}
 use Rattle.field.proofs.RoundLaws.{begun_all}
-use borrow.Author.Rules.{rules}
 use Rattle.field.proofs.round.begin.Goals as goal
 
 pub returns-then-all : goal.returns-then-all

@@ -1,6 +1,5 @@
 -- `field::round::clear_dirty` meets its contract. Assumes nothing.
 use Rattle.field.proofs.RoundLaws.{dirty-is}
-use borrow.Author.Rules.{rules}
 use Rattle.field.proofs.round.clear_dirty.Goals as goal
 
 pub returns : goal.returns

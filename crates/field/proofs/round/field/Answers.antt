@@ -1,7 +1,6 @@
 -- `field::round::field` meets its contract. Assumes nothing.
 use native.Mathlib.Omega.{arith}
 use Rattle.field.proofs.DoneLaws.{gauge_ready, rows-ask, done_by}
-use borrow.Author.Rules.{rules}
 use Rattle.field.proofs.round.field.Goals as goal
 
 pub wanted_window-x-requires : goal.wanted_window-x-requires

@@ -1,14 +1,12 @@
 -- `field::round::ring` meets its contract. Assumes nothing.
 use mathlib.Core.Path.{◌≡◌, refl, ap, ◌∙◌}
-use mathlib.Core.Logic.{⊎_elim}
-use Prim.Native.Nat.{◌-◌}
 use native.Mathlib.Omega.{arith}
 use lib.ListN.{length}
 use lib.Ieee.{nan}
 use borrow.Author.Tests.{eq-eqb, ne_eqb}
-use Rattle.loops.proofs.LoopLaws.{Going, going_none, going_more, going_end}
+use Rattle.loops.proofs.LoopLaws.{going_none, going_more, going_end}
 use Rattle.field.specs.Field.{ring_at}
-use Rattle.field.proofs.RoundLaws.{write_at, written_long, written_all}
+use Rattle.field.proofs.RoundLaws.{written_long, written_all}
 use Rattle.field.proofs.round.ring.Goals as goal
 use Rattle.field.proofs.round.ring.Goals.{else-allowed-k-eq1, then-allowed-k-eq1}
 use Rattle.field.proofs.round.ring.Goals.{At-loop-k}

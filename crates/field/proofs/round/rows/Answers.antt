@@ -1,6 +1,5 @@
 -- `field::round::rows` meets its contract. Assumes nothing.
 use Rattle.field.proofs.DoneLaws.{sensing_in, rowed_is}
-use borrow.Author.Rules.{rules}
 use Rattle.field.proofs.round.rows.Goals as goal
 
 pub field_rows-requires : goal.field_rows-requires

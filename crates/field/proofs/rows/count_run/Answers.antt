@@ -8,7 +8,6 @@ use Rattle.raster.specs.Contact.{samples_of}
 use Rattle.rims.specs.Offsets.{Rims}
 use Rattle.rims.specs.Sums.{HitsAlong}
 use Rattle.rims.proofs.SumLaws.{zeros-long}
-use borrow.Author.Rules.{rules}
 use Rattle.field.proofs.rows.count_run.Goals as goal
 use Rattle.field.proofs.rows.count_run.Goals.{Start}
 

@@ -3,7 +3,6 @@ use Prim.Native.Nat.{ℕ, ◌+◌, ◌*◌, ◌≤◌, ◌<◌}
 use native.Mathlib.Omega.{arith}
 use Rattle.raster.proofs.GridLaws.{number-below}
 use Rattle.field.proofs.GaugeLaws.{cell-left, cell-sampled, cell-told}
-use borrow.Author.Rules.{rules}
 use Rattle.field.proofs.rows.field_cell.Goals as goal
 use Rattle.field.proofs.rows.field_cell.Goals.{Start}
 

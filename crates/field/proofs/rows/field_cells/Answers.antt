@@ -1,10 +1,10 @@
 -- `field::rows::field_cells` meets its contract. The invariant: the cells so far are worked out. Assumes nothing.
 use mathlib.Core.Path.{refl, sym, subst}
-use Prim.Native.Nat.{◌+◌, ◌-◌, ◌*◌}
+use Prim.Native.Nat.{◌+◌, ◌*◌}
 use native.Mathlib.Omega.{arith}
 use lib.ListN.{length}
-use Rattle.loops.proofs.LoopLaws.{Going, going_none, going_more, going_end}
-use Rattle.field.specs.Field.{sensed, field_cell}
+use Rattle.loops.proofs.LoopLaws.{going_none, going_more, going_end}
+use Rattle.field.specs.Field.{sensed}
 use Rattle.field.specs.Gauge.{Sensing}
 use Rattle.field.proofs.FieldLaws.{Swept, row-run}
 use Rattle.field.proofs.GaugeLaws.{known-along}

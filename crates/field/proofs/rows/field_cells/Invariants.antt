@@ -1,13 +1,6 @@
 -- `field::rows::field_cells` meets its contract. The invariant: the cells so far are worked out. Assumes nothing.
-use mathlib.Core.Path.{refl, sym, subst}
-use Prim.Native.Nat.{◌+◌, ◌-◌, ◌*◌}
-use native.Mathlib.Omega.{arith}
-use lib.ListN.{length}
-use Rattle.loops.proofs.LoopLaws.{Going, going_none, going_more, going_end}
+use Rattle.loops.proofs.LoopLaws.{Going}
 use Rattle.field.specs.Field.{sensed, field_cell}
-use Rattle.field.specs.Gauge.{Sensing}
-use Rattle.field.proofs.FieldLaws.{Swept, row-run}
-use Rattle.field.proofs.GaugeLaws.{known-along}
 use Rattle.field.proofs.rows.field_cells.Given as goal
 
 abbrev pub invariant-loop-i : goal.invariant-loop-i

@@ -1,14 +1,13 @@
 -- `field::rows::field_row` meets its contract. Assumes nothing.
 use mathlib.Core.Path.{refl, sym, subst}
-use Prim.Native.Nat.{◌+◌, ◌-◌, ◌*◌, ◌<◌}
+use Prim.Native.Nat.{◌+◌, ◌*◌, ◌<◌}
 use native.Mathlib.Omega.{arith}
 use lib.ListN.{length}
-use Rattle.loops.proofs.LoopLaws.{Going, going_none, going_end}
-use Rattle.field.specs.Field.{sensed, field_cell}
+use Rattle.loops.proofs.LoopLaws.{going_none, going_end}
+use Rattle.field.specs.Field.{sensed}
 use Rattle.field.specs.Gauge.{Sensing}
 use Rattle.field.proofs.FieldLaws.{Swept, row-run}
 use Rattle.field.proofs.SweepLaws.{going_over, row_is}
-use borrow.Author.Rules.{rules}
 use Rattle.field.proofs.rows.field_row.Goals as goal
 use Rattle.field.proofs.rows.field_row.Goals.{At-loop-i, In-loop-i}
 

@@ -1,15 +1,7 @@
 -- `field::rows::field_rows` meets its contract. Assumes nothing.
-use mathlib.Core.Path.{refl, sym, subst}
-use Prim.Native.Nat.{◌-◌, ◌*◌}
-use native.Mathlib.Omega.{arith}
-use lib.ListN.{length}
-use Rattle.loops.proofs.LoopLaws.{Going, going_none, going_more, going_end}
+use Rattle.loops.proofs.LoopLaws.{Going}
 use Rattle.field.specs.Field.{sensed}
 use Rattle.field.specs.Bands.{window_row}
-use Rattle.field.specs.Gauge.{Sensing}
-use Rattle.field.proofs.FieldLaws.{Swept, window_run}
-use Rattle.field.proofs.SweepLaws.{rows_are}
-use borrow.Author.Rules.{rules}
 use Rattle.field.proofs.rows.field_rows.Given as goal
 
 abbrev pub invariant-loop-j : goal.invariant-loop-j

@@ -1,7 +1,6 @@
 -- `field::rows::field_run` meets its contract. Assumes nothing.
 use mathlib.Core.Path.{refl}
 use native.Mathlib.Omega.{arith}
-use borrow.Author.Rules.{rules}
 use Rattle.field.proofs.rows.field_run.Goals as goal
 
 pub count_run-told-requires : goal.count_run-told-requires

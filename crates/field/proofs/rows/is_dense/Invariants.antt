@@ -1,7 +1,5 @@
 -- `field::rows::is_dense` meets its contract. Assumes nothing.
 use Prim.Native.Nat.{◌-◌, ◌≤◌}
-use native.Mathlib.Omega.{arith}
-use borrow.Author.Rules.{rules}
 use Rattle.field.proofs.rows.is_dense.Given as goal
 
 abbrev pub invariant-loop-k : goal.invariant-loop-k

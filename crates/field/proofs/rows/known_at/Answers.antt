@@ -1,7 +1,6 @@
 -- `field::rows::known_at` meets its contract. Assumes nothing.
 use native.Mathlib.Omega.{arith}
 use Rattle.loops.proofs.Cases.{never}
-use borrow.Author.Rules.{rules}
 use Rattle.field.proofs.rows.known_at.Goals as goal
 
 pub overflow_cast-hits : goal.overflow_cast-hits

@@ -6,7 +6,6 @@ use Rattle.setup.specs.Layout.{run}
 use Rattle.setup.specs.Place.{cells_of}
 use Rattle.field.specs.Bands.{WantedIn}
 use Rattle.field.proofs.SquareLaws.{measured-none, measured-all, measured_both}
-use borrow.Author.Rules.{rules}
 use Rattle.field.proofs.squares.measure.Goals as goal
 
 pub stock_words-requires : goal.stock_words-requires

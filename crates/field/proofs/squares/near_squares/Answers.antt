@@ -2,7 +2,6 @@
 use native.Mathlib.Omega.{arith}
 use Rattle.field.proofs.RoundLaws.{wide-cells}
 use Rattle.field.proofs.SquareLaws.{near-is}
-use borrow.Author.Rules.{rules}
 use Rattle.field.proofs.squares.near_squares.Goals as goal
 
 pub squares-requires : goal.squares-requires

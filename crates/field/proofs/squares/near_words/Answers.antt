@@ -1,7 +1,6 @@
 -- `field::squares::near_words` meets its contract. Assumes nothing.
 use Rattle.field.proofs.BandLaws.{cut-rows}
 use Rattle.field.proofs.SquareLaws.{neared_rows}
-use borrow.Author.Rules.{rules}
 use Rattle.field.proofs.squares.near_words.Goals as goal
 
 pub shade_near-requires : goal.shade_near-requires

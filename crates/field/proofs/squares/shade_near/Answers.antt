@@ -4,7 +4,6 @@ use native.Mathlib.Omega.{arith}
 use native.Mathlib.Nat.{mul-le-mul_right}
 use Rattle.setup.proofs.PartLaws.{part_long}
 use Rattle.field.proofs.ShadedLaws.{near_shaded}
-use borrow.Author.Rules.{rules}
 use Rattle.field.proofs.squares.shade_near.Goals as goal
 
 pub shade-requires : goal.shade-requires

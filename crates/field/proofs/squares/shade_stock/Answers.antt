@@ -4,7 +4,6 @@ use native.Mathlib.Nat.{mul-le-mul_right}
 use Rattle.setup.proofs.PartLaws.{part_long}
 use Rattle.field.proofs.BandLaws.{wide_rows}
 use Rattle.field.proofs.ShadedLaws.{wide-on, stock_shaded}
-use borrow.Author.Rules.{rules}
 use Rattle.field.proofs.squares.shade_stock.Goals as goal
 
 pub shade-requires : goal.shade-requires

@@ -3,7 +3,6 @@ use Prim.Native.Nat.{◌*◌, ◌≤◌}
 use native.Mathlib.Omega.{arith}
 use native.Mathlib.Nat.{mul-le-mul_right}
 use Rattle.field.proofs.SquareLaws.{squares-ask, squares-is}
-use borrow.Author.Rules.{rules}
 use Rattle.field.proofs.squares.squares.Goals as goal
 use Rattle.field.proofs.squares.squares.Goals.{Start}
 

@@ -3,7 +3,6 @@ use native.Mathlib.Omega.{arith}
 use Rattle.field.proofs.BandLaws.{wide_rows, wide-some}
 use Rattle.field.proofs.RoundLaws.{wide-cells}
 use Rattle.field.proofs.SquareLaws.{stock-is}
-use borrow.Author.Rules.{rules}
 use Rattle.field.proofs.squares.stock_squares.Goals as goal
 
 pub squares-requires : goal.squares-requires

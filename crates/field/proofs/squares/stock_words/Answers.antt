@@ -1,6 +1,5 @@
 -- `field::squares::stock_words` meets its contract. Assumes nothing.
 use Rattle.field.proofs.SquareLaws.{stocked_rows}
-use borrow.Author.Rules.{rules}
 use Rattle.field.proofs.squares.stock_words.Goals as goal
 
 pub shade_stock-requires : goal.shade_stock-requires

@@ -3,7 +3,6 @@ use mathlib.Core.Path.{refl, ◌∙◌}
 use native.Mathlib.Omega.{arith}
 use Rattle.setup.proofs.PartLaws.{part_long}
 use Rattle.field.proofs.BandLaws.{wanted-whole, wanted_around, dirty_part, not-true}
-use borrow.Author.Rules.{rules}
 use Rattle.field.proofs.squares.wanted_window.Goals as goal
 
 pub around-requires : goal.around-requires

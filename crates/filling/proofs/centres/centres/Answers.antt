@@ -1,9 +1,6 @@
 -- `filling::centres::centres` meets its contract. The invariant: the columns so far have their x. Assumes nothing.
-use Prim.Native.Nat.{◌-◌}
-use native.Mathlib.Omega.{arith}
-use borrow.Author.Rules.{rules}
 use Rattle.filling.specs.Columns.{column_x}
-use Rattle.filling.proofs.CentreLaws.{Centring, centring_none, centring_more, centring_end}
+use Rattle.filling.proofs.CentreLaws.{centring_none, centring_more, centring_end}
 use Rattle.filling.proofs.centres.centres.Goals as goal
 
 pub loop-i-init : goal.loop-i-init

@@ -1,9 +1,6 @@
 -- `filling::centres::rises` meets its contract. The invariant: no column so far is left of the one before it. Assumes nothing.
-use Prim.Native.Nat.{◌-◌}
-use native.Mathlib.Omega.{arith}
-use borrow.Author.Tests.{not-false}
 use Rattle.loops.proofs.Cases.{never}
-use Rattle.filling.proofs.CentreLaws.{Climbing, climbing_none, climbing_more, climbing_end}
+use Rattle.filling.proofs.CentreLaws.{climbing_none, climbing_more, climbing_end}
 use Rattle.filling.proofs.centres.rises.Goals as goal
 
 pub loop-i-init : goal.loop-i-init

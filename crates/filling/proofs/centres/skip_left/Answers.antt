@@ -1,8 +1,4 @@
 -- `filling::centres::skip_left` meets its contract. The invariant: k is at most the length. Assumes nothing.
-use Prim.Native.Nat.{◌-◌, ◌≤◌}
-use native.Mathlib.Omega.{arith}
-use lib.ListN.{length}
-use borrow.Author.Tests.{not-true}
 use Rattle.filling.proofs.CentreLaws.{past-at, past_all}
 use Rattle.filling.proofs.centres.skip_left.Goals as goal
 

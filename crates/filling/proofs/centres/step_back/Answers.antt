@@ -1,6 +1,5 @@
 -- `filling::centres::step_back` meets its contract. The invariant: column k, if there is one, is not left of x. Assumes nothing.
 use native.Mathlib.Omega.{arith}
-use Rattle.filling.specs.Columns.{Past}
 use Rattle.filling.proofs.CentreLaws.{past-at, before_of_lem}
 use Rattle.filling.proofs.centres.step_back.Goals as goal
 

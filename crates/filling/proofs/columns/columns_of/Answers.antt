@@ -1,9 +1,7 @@
 -- `filling::columns::columns_of` meets its contract. The invariant: the bytes and the last pair tell the answers of the edges so far. Assumes nothing.
-use mathlib.Core.Path.{◌≡◌, refl, ◌∙◌}
-use Prim.Native.Nat.{◌-◌}
+use mathlib.Core.Path.{refl, ◌∙◌}
 use native.Mathlib.Omega.{arith}
-use lib.ListN.{length}
-use Rattle.filling.proofs.ScanLaws.{Scanned, scan_none, scan_more, scan_many, scan_run}
+use Rattle.filling.proofs.ScanLaws.{scan_none, scan_more, scan_many, scan_run}
 use Rattle.filling.proofs.columns.columns_of.Goals as goal
 
 pub next_crossing-i-requires : goal.next_crossing-i-requires

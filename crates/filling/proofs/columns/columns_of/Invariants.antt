@@ -1,9 +1,8 @@
 -- `filling::columns::columns_of` meets its contract. The invariant: the bytes and the last pair tell the answers of the edges so far. Assumes nothing.
-use mathlib.Core.Path.{◌≡◌, refl, ◌∙◌}
+use mathlib.Core.Path.{◌≡◌}
 use Prim.Native.Nat.{◌-◌}
-use native.Mathlib.Omega.{arith}
 use lib.ListN.{length}
-use Rattle.filling.proofs.ScanLaws.{Scanned, scan_none, scan_more, scan_many, scan_run}
+use Rattle.filling.proofs.ScanLaws.{Scanned}
 use Rattle.filling.proofs.columns.columns_of.Given as goal
 
 abbrev pub invariant-loop-i : goal.invariant-loop-i

@@ -1,8 +1,5 @@
 -- `filling::columns::turn` meets its contract. The invariant: the bytes before i are turned round. Assumes nothing.
-use mathlib.Core.Logic.{⊎_elim}
-use Prim.Native.Nat.{◌-◌, ◌≤◌, max}
 use native.Mathlib.Omega.{arith}
-use Rattle.filling.specs.Columns.{Turned}
 use Rattle.filling.proofs.ColumnLaws.{turned_none, turned_more, turned-end, flip_one, flip_other}
 use Rattle.filling.proofs.columns.turn.Goals as goal
 use Rattle.filling.proofs.columns.turn.Goals.{else-row-i-eq1, then-row-i-eq1}

@@ -1,9 +1,6 @@
 -- `filling::columns::turn` meets its contract. The invariant: the bytes before i are turned round. Assumes nothing.
-use mathlib.Core.Logic.{⊎_elim}
-use Prim.Native.Nat.{◌-◌, ◌≤◌, max}
-use native.Mathlib.Omega.{arith}
+use Prim.Native.Nat.{◌≤◌, max}
 use Rattle.filling.specs.Columns.{Turned}
-use Rattle.filling.proofs.ColumnLaws.{turned_none, turned_more, turned-end, flip_one, flip_other}
 use Rattle.filling.proofs.columns.turn.Given as goal
 
 abbrev pub invariant-loop-i : goal.invariant-loop-i

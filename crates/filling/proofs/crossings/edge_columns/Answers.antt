@@ -1,5 +1,4 @@
 -- `filling::crossings::edge_columns` meets its contract. Assumes nothing.
-use borrow.Author.Rules.{rules}
 use Rattle.filling.proofs.crossings.edge_columns.Goals as goal
 
 pub returns : goal.returns

@@ -1,12 +1,9 @@
 -- `filling::crossings::next_crossing` meets its contract. The invariant: no edge so far crosses the row, and b is the vertex before vertex i. Assumes nothing.
 use mathlib.Core.Path.{◌≡◌, sym, ◌∙◌}
-use Prim.Native.Nat.{◌+◌, ◌-◌}
 use native.Mathlib.Omega.{arith}
-use borrow.Author.Rules.{rules}
-use Rattle.geom.specs.Region.{vertex_of, before}
 use Rattle.geom.proofs.RegionLaws.{before-next}
 use Rattle.filling.specs.Columns.{crosses}
-use Rattle.filling.proofs.CrossingLaws.{Seeking, seeking_none, seeking_more, seeking_found, seeking_end}
+use Rattle.filling.proofs.CrossingLaws.{seeking_none, seeking_more, seeking_found, seeking_end}
 use Rattle.filling.proofs.crossings.next_crossing.Goals as goal
 use Rattle.filling.proofs.crossings.next_crossing.Goals.{After-straddles}
 

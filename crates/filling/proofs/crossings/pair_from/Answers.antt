@@ -1,6 +1,5 @@
 -- `filling::crossings::pair_from` meets its contract. Assumes nothing.
 use native.Mathlib.Omega.{arith}
-use borrow.Author.Rules.{rules}
 use Rattle.filling.proofs.CrossingLaws.{paired_alone, paired_two}
 use Rattle.filling.proofs.crossings.pair_from.Goals as goal
 

@@ -1,6 +1,5 @@
 -- `filling::crossings::previous` meets its contract. Assumes nothing.
 use native.Mathlib.Omega.{arith}
-use borrow.Author.Rules.{rules}
 use borrow.Author.Tests.{eq-eqb, ne_eqb}
 use Rattle.filling.proofs.crossings.previous.Goals as goal
 

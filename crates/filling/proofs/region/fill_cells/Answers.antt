@@ -1,12 +1,11 @@
 -- `filling::region::fill_cells` meets its contract. The invariant: the map is what the cells so far leave. Assumes nothing.
 use mathlib.Core.Path.{◌≡◌, ap, ◌∙◌}
-use mathlib.Core.Logic.{⊎_elim}
-use Prim.Native.Nat.{◌+◌, ◌-◌, ◌*◌, ◌<◌}
+use Prim.Native.Nat.{◌+◌, ◌*◌, ◌<◌}
 use native.Mathlib.Omega.{arith}
 use lib.ListN.{length}
 use Rattle.loops.proofs.CellLaws.{row_below}
-use Rattle.loops.proofs.LoopLaws.{Going, going_none, going_more, going_end}
-use Rattle.filling.specs.Fill.{fill_cell, fill_row}
+use Rattle.loops.proofs.LoopLaws.{going_none, going_more, going_end}
+use Rattle.filling.specs.Fill.{fill_row}
 use Rattle.filling.proofs.FillLaws.{cells-long, cell_in, cell_out}
 use Rattle.filling.proofs.region.fill_cells.Goals as goal
 use Rattle.filling.proofs.region.fill_cells.Goals.{else-contains, then-contains}

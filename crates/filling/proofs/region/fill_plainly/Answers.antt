@@ -1,10 +1,9 @@
 -- `filling::region::fill_plainly` meets its contract. The invariant: the map is what the rows so far leave. Assumes nothing.
 use mathlib.Core.Path.{◌≡◌, ap, ◌∙◌}
-use Prim.Native.Nat.{◌-◌}
 use native.Mathlib.Omega.{arith}
 use lib.ListN.{length}
-use Rattle.loops.proofs.LoopLaws.{Going, going_none, going_more, going_end}
-use Rattle.filling.specs.Fill.{fill_row, fill_region}
+use Rattle.loops.proofs.LoopLaws.{going_none, going_more, going_end}
+use Rattle.filling.specs.Fill.{fill_region}
 use Rattle.filling.proofs.FillLaws.{rows_long}
 use Rattle.filling.proofs.region.fill_plainly.Goals as goal
 use Rattle.filling.proofs.region.fill_plainly.Goals.{At-loop-j}

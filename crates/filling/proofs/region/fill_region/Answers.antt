@@ -1,7 +1,6 @@
 -- `filling::region::fill_region` meets its contract. Assumes nothing.
 use mathlib.Core.Path.{refl}
 use Rattle.filling.proofs.FillLaws.{centred_front}
-use borrow.Author.Rules.{rules}
 use Rattle.filling.proofs.region.fill_region.Goals as goal
 
 pub fill_rows-requires : goal.fill_rows-requires

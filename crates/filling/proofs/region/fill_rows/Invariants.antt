@@ -1,13 +1,9 @@
 -- `filling::region::fill_rows` meets its contract. The invariant: the map is what the rows so far leave, and no byte of the scratch is 1. Assumes nothing.
-use mathlib.Core.Path.{◌≡◌, refl, sym, ap, ◌∙◌}
-use Prim.Native.Nat.{◌-◌}
-use native.Mathlib.Omega.{arith}
+use mathlib.Core.Path.{◌≡◌}
 use lib.ListN.{length}
-use Rattle.loops.proofs.LoopLaws.{Going, going_none, going_more, going_end}
-use Rattle.filling.specs.Fill.{fill_row, fill_region}
+use Rattle.loops.proofs.LoopLaws.{Going}
+use Rattle.filling.specs.Fill.{fill_row}
 use Rattle.filling.specs.Columns.{Blank}
-use Rattle.filling.proofs.FillLaws.{rows_long}
-use Rattle.filling.proofs.RowLaws.{blank-zeros}
 use Rattle.filling.proofs.region.fill_rows.Given as goal
 
 abbrev pub invariant-loop-j : goal.invariant-loop-j

@@ -1,14 +1,9 @@
 -- `filling::rows::cover_islands` meets its contract. The invariant: the columns of the islands before l are covered, and `at` is where loop l starts. Assumes nothing.
 use mathlib.Core.Path.{◌≡◌, refl, ap, ◌∙◌, subst}
-use mathlib.Core.Bool.{Bool}
-use mathlib.Core.List.{List}
-use Prim.Native.Nat.{ℕ, ◌+◌, ◌-◌, ◌*◌, ◌≤◌, max}
+use Prim.Native.Nat.{ℕ, ◌+◌, ◌*◌, ◌≤◌}
 use native.Mathlib.Omega.{arith}
-use lib.ListN.{length, get_or}
-use lib.Ieee.{Float, nan}
-use Rattle.geom.specs.Vec.{v2}
-use Rattle.geom.specs.Region.{start_of, inside_loop, in_island}
-use Rattle.geom.specs.declared.region.Region.{Region}
+use lib.ListN.{length}
+use Rattle.geom.specs.Region.{start_of, in_island}
 use Rattle.geom.proofs.RegionLaws.{region, start_second, start-next, first-held, loop-held, inside_is}
 use Rattle.filling.specs.Columns.{Islands}
 use Rattle.filling.proofs.RowLaws.{any_to, islands_none, islands_more}

@@ -1,17 +1,16 @@
 -- `filling::rows::cover_islands` meets its contract. The invariant: the columns of the islands before l are covered, and `at` is where loop l starts. Assumes nothing.
-use mathlib.Core.Path.{◌≡◌, refl, ap, ◌∙◌, subst}
+use mathlib.Core.Path.{◌≡◌}
 use mathlib.Core.Bool.{Bool}
 use mathlib.Core.List.{List}
-use Prim.Native.Nat.{ℕ, ◌+◌, ◌-◌, ◌*◌, ◌≤◌, max}
-use native.Mathlib.Omega.{arith}
+use Prim.Native.Nat.{ℕ, ◌≤◌, max}
 use lib.ListN.{length, get_or}
 use lib.Ieee.{Float, nan}
 use Rattle.geom.specs.Vec.{v2}
-use Rattle.geom.specs.Region.{start_of, inside_loop, in_island}
+use Rattle.geom.specs.Region.{start_of, inside_loop}
 use Rattle.geom.specs.declared.region.Region.{Region}
-use Rattle.geom.proofs.RegionLaws.{region, start_second, start-next, first-held, loop-held, inside_is}
+use Rattle.geom.proofs.RegionLaws.{region}
 use Rattle.filling.specs.Columns.{Islands}
-use Rattle.filling.proofs.RowLaws.{any_to, islands_none, islands_more}
+use Rattle.filling.proofs.RowLaws.{any_to}
 use Rattle.filling.proofs.rows.cover_islands.Given as goal
 
 -- whether column c of the row y is in loop l

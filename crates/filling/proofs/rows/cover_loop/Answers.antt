@@ -1,7 +1,6 @@
 -- `filling::rows::cover_loop` meets its contract. Assumes nothing.
 use native.Mathlib.Omega.{arith}
 use Rattle.filling.proofs.RowLaws.{run-told, many_told, join_run, join_many}
-use borrow.Author.Rules.{rules}
 use Rattle.filling.proofs.rows.cover_loop.Goals as goal
 
 pub paint-requires : goal.paint-requires

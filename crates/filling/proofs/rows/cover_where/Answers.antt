@@ -1,9 +1,7 @@
 -- `filling::rows::cover_where` meets its contract. The invariant: what was to be done is done below i, and the rest is as it was. Assumes nothing.
-use mathlib.Core.Logic.{⊎_elim}
-use Prim.Native.Nat.{◌-◌, ◌≤◌}
 use native.Mathlib.Omega.{arith}
 use lib.ListN.{get_or}
-use Rattle.filling.proofs.ColumnLaws.{Covering, covering_none, covering_more, covering_end, cover-yes, cover_not}
+use Rattle.filling.proofs.ColumnLaws.{covering_none, covering_more, covering_end, cover-yes, cover_not}
 use Rattle.filling.proofs.rows.cover_where.Goals as goal
 use Rattle.filling.proofs.rows.cover_where.Goals.{else-row-i, then-row-i}
 

@@ -1,9 +1,6 @@
 -- `filling::rows::cover_where` meets its contract. The invariant: what was to be done is done below i, and the rest is as it was. Assumes nothing.
-use mathlib.Core.Logic.{⊎_elim}
-use Prim.Native.Nat.{◌-◌, ◌≤◌}
-use native.Mathlib.Omega.{arith}
-use lib.ListN.{get_or}
-use Rattle.filling.proofs.ColumnLaws.{Covering, covering_none, covering_more, covering_end, cover-yes, cover_not}
+use Prim.Native.Nat.{◌≤◌}
+use Rattle.filling.proofs.ColumnLaws.{Covering}
 use Rattle.filling.proofs.rows.cover_where.Given as goal
 
 abbrev pub invariant-loop-i : goal.invariant-loop-i

@@ -7,7 +7,6 @@ use Rattle.loops.proofs.CellLaws.{row_below}
 use Rattle.geom.proofs.RegionLaws.{first-held}
 use Rattle.filling.specs.Columns.{InRow, in_loop}
 use Rattle.filling.proofs.RowLaws.{blank-same, has_in_row, row-filled}
-use borrow.Author.Rules.{rules}
 use Rattle.filling.proofs.rows.fill_row.Goals as goal
 
 pub overflow_mul-base : goal.overflow_mul-base

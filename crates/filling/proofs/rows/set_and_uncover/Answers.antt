@@ -4,7 +4,6 @@ use mathlib.Core.List.{List}
 use Prim.Native.Nat.{ℕ}
 use Rattle.filling.specs.Columns.{Shows, nowhere}
 use Rattle.filling.proofs.RowLaws.{blank-after}
-use borrow.Author.Rules.{rules}
 use Rattle.filling.proofs.rows.set_and_uncover.Goals as goal
 
 pub returns : goal.returns

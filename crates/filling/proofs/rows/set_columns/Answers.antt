@@ -3,7 +3,6 @@ use mathlib.Core.Path.{subst}
 use native.Mathlib.Omega.{arith}
 use Rattle.filling.specs.Columns.{InRow}
 use Rattle.filling.proofs.RowLaws.{put_covered, put-plain, put_shown, put_many}
-use borrow.Author.Rules.{rules}
 use Rattle.filling.proofs.rows.set_columns.Goals as goal
 
 pub set_and_uncover-requires : goal.set_and_uncover-requires

@@ -1,11 +1,8 @@
 -- `filling::rows::set_free` meets its contract. The invariant: the map is what the turns so far leave. Assumes nothing.
-use mathlib.Core.Logic.{⊎_elim}
 use mathlib.Core.Path.{◌≡◌, ap, ◌∙◌}
-use Prim.Native.Nat.{◌-◌}
 use native.Mathlib.Omega.{arith}
 use lib.ListN.{length}
-use Rattle.loops.proofs.LoopLaws.{Going, going_none, going_more, going_end}
-use Rattle.filling.specs.Columns.{free_at}
+use Rattle.loops.proofs.LoopLaws.{going_none, going_more, going_end}
 use Rattle.filling.proofs.ColumnLaws.{free-long, free_not, free-yes}
 use Rattle.filling.proofs.rows.set_free.Goals as goal
 use Rattle.filling.proofs.rows.set_free.Goals.{else-cover-i-eq1, then-cover-i-eq1}

@@ -1,12 +1,6 @@
 -- `filling::rows::set_free` meets its contract. The invariant: the map is what the turns so far leave. Assumes nothing.
-use mathlib.Core.Logic.{⊎_elim}
-use mathlib.Core.Path.{◌≡◌, ap, ◌∙◌}
-use Prim.Native.Nat.{◌-◌}
-use native.Mathlib.Omega.{arith}
-use lib.ListN.{length}
-use Rattle.loops.proofs.LoopLaws.{Going, going_none, going_more, going_end}
+use Rattle.loops.proofs.LoopLaws.{Going}
 use Rattle.filling.specs.Columns.{free_at}
-use Rattle.filling.proofs.ColumnLaws.{free-long, free_not, free-yes}
 use Rattle.filling.proofs.rows.set_free.Given as goal
 
 abbrev pub invariant-loop-i : goal.invariant-loop-i

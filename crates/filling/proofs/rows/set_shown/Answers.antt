@@ -1,12 +1,9 @@
 -- `filling::rows::set_shown` meets its contract. The invariant: the map is what the turns so far leave, and the bytes before i are 0. Assumes nothing.
 use mathlib.Core.Path.{◌≡◌, ap, ◌∙◌}
-use mathlib.Core.Logic.{⊎_elim}
-use Prim.Native.Nat.{◌-◌}
 use native.Mathlib.Omega.{arith}
 use lib.ListN.{length}
-use Rattle.loops.proofs.LoopLaws.{Going, going_none, going_more, going_end}
-use Rattle.filling.specs.Columns.{shown_at}
-use Rattle.filling.proofs.ColumnLaws.{Wiped, wiped_none, wiped_more, wiped_end, shown_yes, shown_not, shown_long}
+use Rattle.loops.proofs.LoopLaws.{going_none, going_more, going_end}
+use Rattle.filling.proofs.ColumnLaws.{wiped_none, wiped_more, wiped_end, shown_yes, shown_not, shown_long}
 use Rattle.filling.proofs.rows.set_shown.Goals as goal
 use Rattle.filling.proofs.rows.set_shown.Goals.{else-row-i-eq1, then-row-i-eq1}
 use Rattle.filling.proofs.rows.set_shown.Goals.{At-loop-i}

@@ -1,16 +1,11 @@
 -- `geom::apart::all_apart` meets its contract. The invariant: no edge of a loop before l comes near, and `at` is where loop l starts. Assumes nothing.
 use mathlib.Core.Path.{◌≡◌}
-use Prim.Native.Nat.{◌+◌, ◌-◌, ◌*◌, ◌≤◌}
-use native.Mathlib.Omega.{arith}
-use lib.ListN.{length}
-use borrow.Author.Tests.{not-false}
+use Prim.Native.Nat.{◌≤◌}
 use Rattle.loops.specs.Loop.{any}
-use Rattle.loops.proofs.Cases.{never}
 use Rattle.geom.specs.Region.{start_of}
-use Rattle.geom.specs.Segment.{within, any_within}
+use Rattle.geom.specs.Segment.{within}
 use Rattle.geom.specs.Apart.{Apart}
-use Rattle.geom.proofs.RegionLaws.{region, start_first, start-next, loop-held}
-use Rattle.geom.proofs.ApartLaws.{apart_none, apart_more, apart-end, loop-apart}
+use Rattle.geom.proofs.RegionLaws.{region}
 use Rattle.geom.proofs.apart.all_apart.Given as goal
 
 abbrev pub invariant-loop-l : goal.invariant-loop-l

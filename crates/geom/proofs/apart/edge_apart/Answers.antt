@@ -1,6 +1,5 @@
 -- `geom::apart::edge_apart` meets its contract. Assumes nothing.
 use Rattle.geom.proofs.ApartLaws.{edge-apart}
-use borrow.Author.Rules.{rules}
 use Rattle.geom.proofs.apart.edge_apart.Goals as goal
 
 pub returns : goal.returns

@@ -1,5 +1,4 @@
 -- `geom::apart::is_rooted` meets its contract. Assumes nothing.
-use borrow.Author.Rules.{rules}
 use Rattle.loops.proofs.Cases.{both}
 use Rattle.geom.proofs.apart.is_rooted.Goals as goal
 

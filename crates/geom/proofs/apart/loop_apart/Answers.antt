@@ -1,11 +1,7 @@
 -- `geom::apart::loop_apart` meets its contract. The invariant: no edge before i comes near. Assumes nothing.
-use Prim.Native.Nat.{◌-◌, ◌≤◌}
 use native.Mathlib.Omega.{arith}
-use borrow.Author.Tests.{not-false}
-use Rattle.loops.specs.Loop.{any}
 use Rattle.loops.proofs.Cases.{never}
-use Rattle.geom.specs.Segment.{edge_within, loop_within}
-use Rattle.geom.specs.Apart.{Apart}
+use Rattle.geom.specs.Segment.{loop_within}
 use Rattle.geom.proofs.ApartLaws.{apart_none, apart_more, apart-end}
 use Rattle.geom.proofs.apart.loop_apart.Goals as goal
 

@@ -1,6 +1,5 @@
 -- `geom::points::put` meets its contract. Assumes nothing.
 use mathlib.Core.Path.{refl}
-use borrow.Author.Rules.{rules}
 use Rattle.geom.specs.Points.{put_point}
 use Rattle.geom.proofs.points.put.Goals as goal
 

@@ -1,5 +1,4 @@
 -- `geom::region::bounds` meets its contract. Assumes nothing.
-use borrow.Author.Rules.{rules}
 use Rattle.geom.proofs.RegionLaws.{first-held, bounds-is}
 use Rattle.geom.proofs.region.bounds.Goals as goal
 

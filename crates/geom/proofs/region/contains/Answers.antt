@@ -1,6 +1,5 @@
 -- `geom::region::contains` meets its contract. Assumes nothing.
 use mathlib.Core.Path.{◌≡◌}
-use borrow.Author.Rules.{rules}
 use Rattle.geom.specs.Region.{inside_loop}
 use Rattle.geom.proofs.RegionLaws.{first-held, inside-first, contains_in, contains_out}
 use Rattle.geom.proofs.region.contains.Goals as goal

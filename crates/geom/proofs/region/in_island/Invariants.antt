@@ -1,13 +1,10 @@
 -- `geom::region::in_island` meets its contract. The invariant: none of the islands before l has p, and `at` is where loop l starts. Assumes nothing.
-use mathlib.Core.Path.{◌≡◌, sym, ◌∙◌}
+use mathlib.Core.Path.{◌≡◌}
 use mathlib.Core.Bool.{false}
-use Prim.Native.Nat.{◌+◌, ◌-◌, ◌*◌, ◌≤◌}
-use native.Mathlib.Omega.{arith}
-use lib.ListN.{length}
 use Rattle.loops.specs.Loop.{or_at}
-use Rattle.loops.proofs.LoopLaws.{Going, going_none, any-on, any_out, any_none}
-use Rattle.geom.specs.Region.{start_of, inside_loop, in_island}
-use Rattle.geom.proofs.RegionLaws.{region, start_second, start-next, first-held, loop-held, inside_is}
+use Rattle.loops.proofs.LoopLaws.{Going}
+use Rattle.geom.specs.Region.{start_of, inside_loop}
+use Rattle.geom.proofs.RegionLaws.{region}
 use Rattle.geom.proofs.region.in_island.Given as goal
 
 abbrev pub invariant-loop-l : goal.invariant-loop-l

@@ -1,11 +1,8 @@
 -- `geom::region::loop_bounds` meets its contract. Assumes nothing.
 use mathlib.Core.Path.{◌∙◌}
-use Prim.Native.Nat.{◌-◌}
-use native.Mathlib.Omega.{arith}
 use lib.Ieee.{of_bits, nan_bits, neg}
-use borrow.Author.Rules.{rules}
-use Rattle.loops.proofs.LoopLaws.{Going, going_none, going_more, going_end}
-use Rattle.geom.specs.Region.{widened_at, loop_bounds}
+use Rattle.loops.proofs.LoopLaws.{going_none, going_more, going_end}
+use Rattle.geom.specs.Region.{loop_bounds}
 use Rattle.geom.proofs.region.loop_bounds.Goals as goal
 
 pub float_from_bits-top : goal.float_from_bits-top

@@ -1,11 +1,7 @@
 -- `geom::region::point_in_loop` meets its contract. The invariant: the answer is what the edges so far leave, and b is the vertex before vertex i. Assumes nothing.
-use mathlib.Core.Path.{◌≡◌, ◌∙◌}
-use mathlib.Core.Bool.{false}
-use Prim.Native.Nat.{◌+◌, ◌-◌}
-use native.Mathlib.Omega.{arith}
-use borrow.Author.Rules.{rules}
-use Rattle.loops.proofs.LoopLaws.{Going, going_none, going_more, going_end}
-use Rattle.geom.specs.Region.{vertex_of, before, edge_at, point_in_loop}
+use mathlib.Core.Path.{◌∙◌}
+use Rattle.loops.proofs.LoopLaws.{going_none, going_more, going_end}
+use Rattle.geom.specs.Region.{point_in_loop}
 use Rattle.geom.proofs.RegionLaws.{before-first, before-next, none_inside}
 use Rattle.geom.proofs.region.point_in_loop.Goals as goal
 

@@ -1,12 +1,9 @@
 -- `geom::region::point_in_loop` meets its contract. The invariant: the answer is what the edges so far leave, and b is the vertex before vertex i. Assumes nothing.
-use mathlib.Core.Path.{◌≡◌, ◌∙◌}
+use mathlib.Core.Path.{◌≡◌}
 use mathlib.Core.Bool.{false}
-use Prim.Native.Nat.{◌+◌, ◌-◌}
-use native.Mathlib.Omega.{arith}
-use borrow.Author.Rules.{rules}
-use Rattle.loops.proofs.LoopLaws.{Going, going_none, going_more, going_end}
-use Rattle.geom.specs.Region.{vertex_of, before, edge_at, point_in_loop}
-use Rattle.geom.proofs.RegionLaws.{before-first, before-next, none_inside}
+use Prim.Native.Nat.{◌+◌}
+use Rattle.loops.proofs.LoopLaws.{Going}
+use Rattle.geom.specs.Region.{vertex_of, before, edge_at}
 use Rattle.geom.proofs.region.point_in_loop.Given as goal
 
 abbrev pub invariant-loop-i : goal.invariant-loop-i

@@ -1,6 +1,5 @@
 -- `geom::region::size` meets its contract. Assumes nothing.
 use native.Mathlib.Omega.{arith}
-use borrow.Author.Rules.{rules}
 use Rattle.geom.proofs.region.size.Goals as goal
 
 pub overflow_cast-result : goal.overflow_cast-result

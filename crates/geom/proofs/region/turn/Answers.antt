@@ -1,5 +1,4 @@
 -- `geom::region::turn` meets its contract. Assumes nothing.
-use borrow.Author.Rules.{rules}
 use Rattle.geom.specs.Region.{turned}
 use Rattle.geom.proofs.region.turn.Goals as goal
 

@@ -1,7 +1,6 @@
 -- `geom::region::vertex` meets its contract. Assumes nothing.
 use mathlib.Core.Path.{refl}
 use Rattle.geom.specs.Region.{vertex_of}
-use borrow.Author.Rules.{rules}
 use Rattle.geom.proofs.region.vertex.Goals as goal
 
 pub returns : goal.returns

@@ -1,5 +1,4 @@
 -- `geom::region::widen` meets its contract. Assumes nothing.
-use borrow.Author.Rules.{rules}
 use Rattle.geom.specs.Region.{widened}
 use Rattle.geom.proofs.region.widen.Goals as goal
 

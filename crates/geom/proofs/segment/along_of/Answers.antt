@@ -1,6 +1,5 @@
 -- `geom::segment::along_of` meets its contract. Assumes nothing.
 use Rattle.geom.proofs.SegmentLaws.{along-start, along-on}
-use borrow.Author.Rules.{rules}
 use Rattle.geom.proofs.segment.along_of.Goals as goal
 
 pub returns-then-l2 : goal.returns-then-l2

@@ -1,14 +1,11 @@
 -- `geom::segment::any_within` meets its contract. The invariant: no loop before l has an edge within, and `at` is where loop l starts. Assumes nothing.
 use mathlib.Core.Path.{◌≡◌, sym, ◌∙◌}
-use mathlib.Core.Bool.{false}
-use Prim.Native.Nat.{◌+◌, ◌-◌, ◌*◌, ◌≤◌}
+use Prim.Native.Nat.{◌+◌, ◌*◌, ◌≤◌}
 use native.Mathlib.Omega.{arith}
 use lib.ListN.{length}
-use Rattle.loops.specs.Loop.{or_at}
-use Rattle.loops.proofs.LoopLaws.{Going, going_none, any-on, any_out, any_none}
-use Rattle.geom.specs.Region.{start_of}
+use Rattle.loops.proofs.LoopLaws.{going_none, any-on, any_out, any_none}
 use Rattle.geom.specs.Segment.{within, any_within}
-use Rattle.geom.proofs.RegionLaws.{region, start_first, start-next, loop-held}
+use Rattle.geom.proofs.RegionLaws.{start_first, start-next, loop-held}
 use Rattle.geom.proofs.SegmentLaws.{within-is}
 use Rattle.geom.proofs.segment.any_within.Goals as goal
 use Rattle.geom.proofs.segment.any_within.Goals.{After-loop_within, After-size-n}

@@ -1,6 +1,5 @@
 -- `geom::segment::edge_within` meets its contract. Assumes nothing.
 use Rattle.geom.proofs.SegmentLaws.{a_square, edge-is}
-use borrow.Author.Rules.{rules}
 use Rattle.geom.proofs.segment.edge_within.Goals as goal
 
 pub root_below-requires : goal.root_below-requires

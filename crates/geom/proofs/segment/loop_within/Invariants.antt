@@ -1,11 +1,8 @@
 -- `geom::segment::loop_within` meets its contract. The invariant: no edge before i is within. Assumes nothing.
-use mathlib.Core.Path.{sym, ◌∙◌}
 use mathlib.Core.Bool.{false}
-use Prim.Native.Nat.{◌-◌}
-use native.Mathlib.Omega.{arith}
 use Rattle.loops.specs.Loop.{or_at}
-use Rattle.loops.proofs.LoopLaws.{Going, going_none, any-on, any_out, any_none}
-use Rattle.geom.specs.Segment.{edge_within, loop_within}
+use Rattle.loops.proofs.LoopLaws.{Going}
+use Rattle.geom.specs.Segment.{edge_within}
 use Rattle.geom.proofs.segment.loop_within.Given as goal
 
 abbrev pub invariant-loop-i : goal.invariant-loop-i

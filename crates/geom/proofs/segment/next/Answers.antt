@@ -1,7 +1,6 @@
 -- `geom::segment::next` meets its contract. Assumes nothing.
 use Prim.Native.Nat.{◌+◌}
 use native.Mathlib.Omega.{arith}
-use borrow.Author.Rules.{rules}
 use borrow.Author.Tests.{eq-eqb, ne_eqb}
 use Rattle.geom.proofs.segment.next.Goals as goal
 

@@ -2,7 +2,6 @@
 use mathlib.Core.Path.{ap, ◌∙◌}
 use Rattle.numbers.specs.Root.{root_of}
 use Rattle.geom.specs.Segment.{seg_distance}
-use borrow.Author.Rules.{rules}
 use Rattle.geom.proofs.segment.seg_distance.Goals as goal
 
 pub returns : goal.returns

@@ -1,6 +1,5 @@
 -- `geom::segment::seg_square` meets its contract. Assumes nothing.
 use Rattle.geom.proofs.SegmentLaws.{square-is}
-use borrow.Author.Rules.{rules}
 use Rattle.geom.proofs.segment.seg_square.Goals as goal
 
 pub returns : goal.returns

@@ -4,7 +4,6 @@ use lib.Dec.{ltb}
 use Rattle.numbers.specs.declared.order.Ordering.TheVariants.{Less, Equal, Greater}
 use Rattle.links.specs.Heap.{settled}
 use Rattle.links.proofs.OrderLaws.{before-less, before-greater, before_by}
-use borrow.Author.Rules.{rules}
 use Rattle.links.proofs.heap.before.Goals as goal
 
 pub returns-then-a-b : goal.returns-then-a-b

@@ -4,7 +4,6 @@ use Prim.Native.Nat.{◌+◌, ◌*◌}
 use native.Mathlib.Omega.{arith}
 use Rattle.links.specs.Heap.{before_of, entry_at}
 use Rattle.links.proofs.SiftLaws.{lesser-left, lesser-right}
-use borrow.Author.Rules.{rules}
 use Rattle.links.proofs.heap.child.Goals as goal
 use Rattle.links.proofs.heap.child.Goals.{After-before-then-b-n}
 

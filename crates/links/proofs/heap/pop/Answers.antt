@@ -4,7 +4,6 @@ use Prim.Native.Nat.{◌+◌, ◌-◌}
 use native.Mathlib.Omega.{arith}
 use Rattle.links.specs.Heap.{entry_at, Ordered}
 use Rattle.links.proofs.HoldLaws.{popped}
-use borrow.Author.Rules.{rules}
 use Rattle.links.proofs.heap.pop.Goals as goal
 
 pub sink-k-requires : goal.sink-k-requires

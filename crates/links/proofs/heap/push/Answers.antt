@@ -1,6 +1,5 @@
 -- `links::heap::push` meets its contract. Assumes nothing.
 use Rattle.links.proofs.HoldLaws.{pushed}
-use borrow.Author.Rules.{rules}
 use Rattle.links.proofs.heap.push.Goals as goal
 
 pub returns : goal.returns

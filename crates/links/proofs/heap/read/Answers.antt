@@ -4,7 +4,6 @@ use lib.ListN.{get_or}
 use lib.Ieee.{nan}
 use Rattle.links.specs.Heap.{entry_at}
 use Rattle.links.specs.Search.{entry}
-use borrow.Author.Rules.{rules}
 use Rattle.links.proofs.heap.read.Goals as goal
 
 pub returns : goal.returns

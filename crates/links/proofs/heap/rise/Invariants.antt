@@ -1,10 +1,6 @@
 -- `links::heap::rise` meets its contract. Assumes nothing.
-use native.Mathlib.Omega.{arith}
-use borrow.Author.Rules.{rules}
-use borrow.Author.Tests.{not-true, not-false}
 use Rattle.links.specs.Heap.{entry_at, SameLong}
 use Rattle.links.specs.Sift.{Rising}
-use Rattle.links.proofs.SiftLaws.{rising_none, rise_stop, rise-on, kept-none}
 use Rattle.links.proofs.heap.rise.Given as goal
 
 abbrev pub invariant-loop-k : goal.invariant-loop-k

@@ -1,10 +1,5 @@
 -- `links::heap::sink` meets its contract. Assumes nothing.
-use Prim.Native.Nat.{◌-◌}
 use native.Mathlib.Omega.{arith}
-use borrow.Author.Rules.{rules}
-use borrow.Author.Tests.{not-true, not-false}
-use Rattle.links.specs.Heap.{entry_at, SameLong}
-use Rattle.links.specs.Sift.{Sinking}
 use Rattle.links.proofs.SiftLaws.{sinking-none, sink_stop, sink_on, kept-none}
 use Rattle.links.proofs.heap.sink.Goals as goal
 

@@ -3,7 +3,6 @@ use native.Mathlib.Omega.{arith}
 use native.Mathlib.Nat.{div-le_self}
 use Prim.Native.Nat.{◌-◌}
 use Rattle.links.proofs.LatticeLaws.{above-is}
-use borrow.Author.Rules.{rules}
 use Rattle.links.proofs.lattice.across.Goals as goal
 
 pub overflow_add-result : goal.overflow_add-result

@@ -4,7 +4,6 @@ use Prim.Native.Nat.{ℕ, ◌+◌, ◌%◌, ◌/◌}
 use native.Mathlib.Omega.{arith}
 use Rattle.links.specs.Lattice.{on_lattice}
 use Rattle.links.proofs.LatticeLaws.{column-small, row_small, gx_pos, beside_is, x-small, y-small}
-use borrow.Author.Rules.{rules}
 use Rattle.links.proofs.lattice.beside.Goals as goal
 
 pub nonzero_rem-a : goal.nonzero_rem-a

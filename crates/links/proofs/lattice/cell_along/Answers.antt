@@ -1,7 +1,6 @@
 -- `links::lattice::cell_along` meets its contract. Assumes nothing.
 use mathlib.Core.Path.{refl}
 use Rattle.links.proofs.LatticeLaws.{along-first, along-last}
-use borrow.Author.Rules.{rules}
 use Rattle.links.proofs.lattice.cell_along.Goals as goal
 
 pub returns-then-i-n : goal.returns-then-i-n

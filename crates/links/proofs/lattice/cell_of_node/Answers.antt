@@ -3,7 +3,6 @@ use mathlib.Core.Path.{sym, ap, ◌∙◌, subst}
 use Prim.Native.Nat.{ℕ, ◌*◌, ◌%◌, ◌/◌, ◌<◌}
 use Rattle.links.specs.Lattice.{along}
 use Rattle.links.proofs.LatticeLaws.{cell-low, gx_pos, column_in, row_in, cell-is}
-use borrow.Author.Rules.{rules}
 use Rattle.links.proofs.lattice.cell_of_node.Goals as goal
 
 pub nonzero_rem-a : goal.nonzero_rem-a

@@ -3,7 +3,6 @@ use mathlib.Core.Path.{sym, ap, ◌∙◌, subst}
 use Prim.Native.Nat.{ℕ, ◌*◌, ◌%◌, ◌/◌, ◌<◌}
 use Rattle.links.specs.Lattice.{centre_at, centre_of}
 use Rattle.links.proofs.LatticeLaws.{gx_pos, column_in, row_in}
-use borrow.Author.Rules.{rules}
 use Rattle.links.proofs.lattice.centre.Goals as goal
 
 pub nonzero_rem-a : goal.nonzero_rem-a

@@ -1,6 +1,5 @@
 -- `links::lattice::centre_at` meets its contract. Assumes nothing.
 use Rattle.links.proofs.LatticeLaws.{centre-is}
-use borrow.Author.Rules.{rules}
 use Rattle.links.proofs.lattice.centre_at.Goals as goal
 
 pub returns : goal.returns

@@ -1,6 +1,5 @@
 -- `links::lattice::lattice_of` meets its contract. Assumes nothing.
 use Rattle.links.proofs.LatticeLaws.{spaced, place-fits, place_in, lattice_is}
-use borrow.Author.Rules.{rules}
 use Rattle.links.proofs.lattice.lattice_of.Goals as goal
 
 pub across-gx-requires : goal.across-gx-requires

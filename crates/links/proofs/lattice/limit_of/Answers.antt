@@ -2,7 +2,6 @@
 use Rattle.distance.specs.declared.limits.Threshold.{Threshold}
 use Rattle.distance.specs.Limits.{LimitOf}
 use mathlib.Core.Path.{subst}
-use borrow.Author.Rules.{rules}
 use Rattle.links.proofs.lattice.limit_of.Goals as goal
 
 pub returns : goal.returns

@@ -3,7 +3,6 @@ use Rattle.raster.specs.declared.grid.CellNo.{CellNo}
 use mathlib.Core.Path.{ap, ◌∙◌}
 use Rattle.links.proofs.LatticeLaws.{limited-bound, free_not, free-judged, cell_below}
 use native.Mathlib.Omega.{arith}
-use borrow.Author.Rules.{rules}
 use Rattle.links.proofs.lattice.node_free.Goals as goal
 
 pub bounds-allowed-k : goal.bounds-allowed-k

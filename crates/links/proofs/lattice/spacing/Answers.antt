@@ -1,6 +1,5 @@
 -- `links::lattice::spacing` meets its contract. Assumes nothing.
 use Rattle.links.proofs.LatticeLaws.{spacing_is}
-use borrow.Author.Rules.{rules}
 use Rattle.links.proofs.lattice.spacing.Goals as goal
 
 pub returns : goal.returns

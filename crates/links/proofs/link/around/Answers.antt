@@ -3,7 +3,6 @@ use native.Mathlib.Omega.{arith}
 use borrow.Author.Tests.{not-true, not-false}
 use Rattle.loops.specs.Regions.{within}
 use Rattle.links.proofs.LinkLaws.{around_asks, work-few, around_not, trace_asks, around_lost, around_found}
-use borrow.Author.Rules.{rules}
 use Rattle.links.proofs.link.around.Goals as goal
 
 pub search-o-requires : goal.search-o-requires

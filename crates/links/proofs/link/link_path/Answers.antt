@@ -6,7 +6,6 @@ use Rattle.raster.proofs.GridLaws.{on-grid-at}
 use Rattle.rims.proofs.TileLaws.{tiles_long}
 use Rattle.links.proofs.LatticeLaws.{laid}
 use Rattle.links.proofs.LinkLaws.{some-cell, link_straight, link-no-from, link-no-to, link_around, lattice_grid}
-use borrow.Author.Rules.{rules}
 use Rattle.links.proofs.link.link_path.Goals as goal
 
 pub slice_bounds-fill-end : goal.slice_bounds-fill-end

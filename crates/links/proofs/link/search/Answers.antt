@@ -1,6 +1,5 @@
 -- `links::link::search` meets its contract. Assumes nothing.
 use Rattle.links.proofs.LinkLaws.{tell_room, told-long, search_is}
-use borrow.Author.Rules.{rules}
 use Rattle.links.proofs.link.search.Goals as goal
 
 pub tell_nodes-requires : goal.tell_nodes-requires

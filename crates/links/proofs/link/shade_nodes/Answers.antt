@@ -1,6 +1,5 @@
 -- `links::link::shade_nodes` meets its contract. Assumes nothing.
 use Rattle.links.proofs.TellLaws.{shaded_tell}
-use borrow.Author.Rules.{rules}
 use Rattle.links.proofs.link.shade_nodes.Goals as goal
 
 pub returns : goal.returns

@@ -1,7 +1,6 @@
 -- `links::link::tell_nodes` meets its contract. Assumes nothing.
 use native.Mathlib.Omega.{arith}
 use Rattle.links.proofs.TellLaws.{transform_asks, squares_tell}
-use borrow.Author.Rules.{rules}
 use Rattle.links.proofs.link.tell_nodes.Goals as goal
 
 pub shade_nodes-requires : goal.shade_nodes-requires

@@ -3,7 +3,6 @@ use native.Mathlib.Omega.{arith}
 use Rattle.loops.specs.Regions.{within}
 use Rattle.links.proofs.LatticeLaws.{nodes-most, nodes-few}
 use Rattle.links.proofs.LinkLaws.{lay_asks, shorten_asks, trace_is}
-use borrow.Author.Rules.{rules}
 use Rattle.links.proofs.link.trace.Goals as goal
 
 pub overflow_add-last : goal.overflow_add-last

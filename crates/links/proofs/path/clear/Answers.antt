@@ -6,7 +6,6 @@ use Rattle.loops.specs.Regions.{within}
 use Rattle.setup.specs.Place.{Walls}
 use Rattle.links.specs.Straight.{link_clear}
 use Rattle.links.proofs.ShortenLaws.{rim-at}
-use borrow.Author.Rules.{rules}
 use Rattle.links.proofs.path.clear.Goals as goal
 
 pub link_clear-requires : goal.link_clear-requires

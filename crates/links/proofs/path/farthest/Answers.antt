@@ -1,8 +1,6 @@
 -- `links::path::farthest` meets its contract. The invariant: no point from k on is in view. Assumes nothing.
-use Rattle.links.specs.Path.{farthest_of, clear_in, path_in}
-use Rattle.geom.specs.Region.{vertex_of}
-use Prim.Native.Nat.{◌-◌, ◌≤◌}
-use mathlib.Core.Path.{◌≡◌, refl, ap, ◌∙◌}
+use Rattle.links.specs.Path.{clear_in}
+use mathlib.Core.Path.{refl, ap, ◌∙◌}
 use native.Mathlib.Omega.{arith}
 use Rattle.links.proofs.ShortenLaws.{far-found, far_more, far_none}
 use Rattle.links.proofs.path.farthest.Goals as goal

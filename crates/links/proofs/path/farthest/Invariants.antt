@@ -2,9 +2,7 @@
 use Rattle.links.specs.Path.{farthest_of, clear_in, path_in}
 use Rattle.geom.specs.Region.{vertex_of}
 use Prim.Native.Nat.{◌-◌, ◌≤◌}
-use mathlib.Core.Path.{◌≡◌, refl, ap, ◌∙◌}
-use native.Mathlib.Omega.{arith}
-use Rattle.links.proofs.ShortenLaws.{far-found, far_more, far_none}
+use mathlib.Core.Path.{◌≡◌}
 use Rattle.links.proofs.path.farthest.Given as goal
 
 abbrev pub invariant-loop-k : goal.invariant-loop-k

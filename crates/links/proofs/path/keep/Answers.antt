@@ -1,6 +1,5 @@
 -- `links::path::keep` meets its contract. Assumes nothing.
 use Rattle.links.proofs.ShortenLaws.{keep-is}
-use borrow.Author.Rules.{rules}
 use Rattle.links.proofs.path.keep.Goals as goal
 
 pub returns : goal.returns

@@ -1,12 +1,11 @@
 -- `links::path::lay` meets its contract. Assumes nothing.
-use mathlib.Core.Path.{◌≡◌, refl, sym, ap, ◌∙◌}
+use mathlib.Core.Path.{refl, sym, ap, ◌∙◌}
 use native.Mathlib.Omega.{arith}
 use lib.ListN.{length}
 use borrow.Author.Tests.{eqb-true, eqb-false}
 use Rattle.geom.proofs.PointLaws.{put-length}
 use Rattle.links.proofs.LatticeLaws.{nodes_pos}
-use Rattle.links.proofs.LayLaws.{Laying, all_from, laying_none, laying_all, laying_stop, laying_start, laying_end, laying_more}
-use borrow.Author.Rules.{rules}
+use Rattle.links.proofs.LayLaws.{laying_none, laying_all, laying_stop, laying_start, laying_end, laying_more}
 use Rattle.links.proofs.path.lay.Goals as goal
 
 pub nodes_of-last-requires : goal.nodes_of-last-requires

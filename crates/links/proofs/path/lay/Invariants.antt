@@ -1,12 +1,7 @@
 -- `links::path::lay` meets its contract. Assumes nothing.
-use mathlib.Core.Path.{◌≡◌, refl, sym, ap, ◌∙◌}
-use native.Mathlib.Omega.{arith}
+use mathlib.Core.Path.{◌≡◌}
 use lib.ListN.{length}
-use borrow.Author.Tests.{eqb-true, eqb-false}
-use Rattle.geom.proofs.PointLaws.{put-length}
-use Rattle.links.proofs.LatticeLaws.{nodes_pos}
-use Rattle.links.proofs.LayLaws.{Laying, all_from, laying_none, laying_all, laying_stop, laying_start, laying_end, laying_more}
-use borrow.Author.Rules.{rules}
+use Rattle.links.proofs.LayLaws.{Laying, all_from}
 use Rattle.links.proofs.path.lay.Given as goal
 
 abbrev pub invariant-loop-k : goal.invariant-loop-k

@@ -4,7 +4,6 @@ use mathlib.Core.List.{List}
 use lib.Ieee.{Float}
 use Rattle.geom.specs.Region.{vertex_of}
 use Rattle.links.proofs.ShortenLaws.{path-at}
-use borrow.Author.Rules.{rules}
 use Rattle.links.proofs.path.point.Goals as goal
 
 pub returns : goal.returns

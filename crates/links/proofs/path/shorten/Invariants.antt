@@ -1,8 +1,6 @@
 -- `links::path::shorten` meets its contract. The invariant: that many points are kept. Assumes nothing.
 use Prim.Native.Nat.{◌-◌}
-use borrow.Author.Rules.{rules}
-use native.Mathlib.Omega.{arith}
-use Rattle.links.proofs.ShortenLaws.{Shortening, shortening_none, shortening_fitted, shortening_end, shortening_lost, shortening_in, shortening_more}
+use Rattle.links.proofs.ShortenLaws.{Shortening}
 use Rattle.links.proofs.path.shorten.Given as goal
 
 abbrev pub invariant-loop-first : goal.invariant-loop-first

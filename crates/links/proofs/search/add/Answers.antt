@@ -1,7 +1,6 @@
 -- `links::search::add` meets its contract. Assumes nothing.
 use Rattle.loops.specs.Regions.{within}
 use Rattle.links.proofs.SearchLaws.{add_asks, add_is}
-use borrow.Author.Rules.{rules}
 use Rattle.links.proofs.search.add.Goals as goal
 
 pub push-requires : goal.push-requires

@@ -1,7 +1,6 @@
 -- `links::search::begin` meets its contract. Assumes nothing.
 use native.Mathlib.Omega.{arith}
 use Rattle.links.proofs.SeekLaws.{start_in, begin_asks, begin-long, begin-is}
-use borrow.Author.Rules.{rules}
 use Rattle.links.proofs.search.begin.Goals as goal
 
 pub bounds-costs-i : goal.bounds-costs-i

@@ -1,8 +1,6 @@
 -- `links::search::expand` meets its contract. The invariant: d neighbours are visited, and no more than d entries are new. Assumes nothing.
-use Rattle.links.specs.Search.{visit_of, expand_of, search_in, squares_in, words_in, Visited}
-use Rattle.links.specs.Lattice.{nodes}
-use Rattle.loops.proofs.LoopLaws.{Going, going_none, going_end}
-use Prim.Native.Nat.{◌+◌, ◌-◌, ◌≤◌}
+use Rattle.links.specs.Search.{expand_of}
+use Rattle.loops.proofs.LoopLaws.{going_none, going_end}
 use mathlib.Core.Path.{◌≡◌}
 use native.Mathlib.Omega.{arith}
 use Rattle.links.proofs.VisitLaws.{visited_none, visited_more, expand_more}

@@ -1,11 +1,8 @@
 -- `links::search::expand` meets its contract. The invariant: d neighbours are visited, and no more than d entries are new. Assumes nothing.
-use Rattle.links.specs.Search.{visit_of, expand_of, search_in, squares_in, words_in, Visited}
+use Rattle.links.specs.Search.{visit_of, search_in, squares_in, words_in, Visited}
 use Rattle.links.specs.Lattice.{nodes}
-use Rattle.loops.proofs.LoopLaws.{Going, going_none, going_end}
-use Prim.Native.Nat.{◌+◌, ◌-◌, ◌≤◌}
-use mathlib.Core.Path.{◌≡◌}
-use native.Mathlib.Omega.{arith}
-use Rattle.links.proofs.VisitLaws.{visited_none, visited_more, expand_more}
+use Rattle.loops.proofs.LoopLaws.{Going}
+use Prim.Native.Nat.{◌+◌, ◌≤◌}
 use Rattle.links.proofs.search.expand.Given as goal
 
 abbrev pub invariant-loop-d : goal.invariant-loop-d

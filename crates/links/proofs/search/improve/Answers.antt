@@ -1,7 +1,6 @@
 -- `links::search::improve` meets its contract. Assumes nothing.
 use native.Mathlib.Omega.{arith}
 use Rattle.links.proofs.SearchLaws.{improve_ready, improve_is}
-use borrow.Author.Rules.{rules}
 use Rattle.links.proofs.search.improve.Goals as goal
 
 pub bounds-costs-k : goal.bounds-costs-k

@@ -1,7 +1,6 @@
 -- `links::search::next` meets its contract. Assumes nothing.
 use Rattle.loops.specs.Regions.{within}
 use Rattle.links.proofs.SearchLaws.{next_asks, next-is}
-use borrow.Author.Rules.{rules}
 use Rattle.links.proofs.search.next.Goals as goal
 
 pub pop-requires : goal.pop-requires

@@ -1,7 +1,6 @@
 -- `links::search::offer` meets its contract. Assumes nothing.
 use native.Mathlib.Omega.{arith}
 use Rattle.links.proofs.SearchLaws.{offer_asks, offer_gives, offer_not, grown-none}
-use borrow.Author.Rules.{rules}
 use Rattle.links.proofs.search.offer.Goals as goal
 
 pub bounds-costs-i : goal.bounds-costs-i

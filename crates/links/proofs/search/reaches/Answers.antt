@@ -2,7 +2,6 @@
 use mathlib.Core.Path.{sym, ◌∙◌}
 use borrow.Author.Tests.{eqb-true, eqb-false}
 use Rattle.links.proofs.VisitLaws.{reach_goal, reach-free}
-use borrow.Author.Rules.{rules}
 use Rattle.links.proofs.search.reaches.Goals as goal
 
 pub returns-then-same_node : goal.returns-then-same_node

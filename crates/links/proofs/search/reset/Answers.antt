@@ -1,7 +1,6 @@
 -- `links::search::reset` meets its contract. Assumes nothing.
 use lib.Ieee.{nan_bits}
 use Rattle.links.proofs.SeekLaws.{front-filled}
-use borrow.Author.Rules.{rules}
 use Rattle.links.proofs.search.reset.Goals as goal
 
 pub float_from_bits-fill_doubles : goal.float_from_bits-fill_doubles

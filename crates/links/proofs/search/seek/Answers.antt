@@ -1,7 +1,6 @@
 -- `links::search::seek` meets its contract. Assumes nothing.
 use native.Mathlib.Omega.{arith}
 use Rattle.links.proofs.SeekLaws.{seek_asks, run_asks, seek_is}
-use borrow.Author.Rules.{rules}
 use Rattle.links.proofs.search.seek.Goals as goal
 
 pub slice_bounds-begin-end : goal.slice_bounds-begin-end

@@ -5,7 +5,6 @@ use borrow.Author.Tests.{eqb-true, eqb-false}
 use Rattle.links.proofs.LatticeLaws.{nodes-most}
 use Rattle.links.proofs.VisitLaws.{words-lent}
 use Rattle.links.proofs.SeekLaws.{step-none, next_fits, step_goal, step-spent, step-node, step_room, step-on}
-use borrow.Author.Rules.{rules}
 use Rattle.links.proofs.search.step.Goals as goal
 
 pub returns-then-m-eq0 : goal.returns-then-m-eq0

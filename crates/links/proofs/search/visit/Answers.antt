@@ -9,7 +9,6 @@ use Rattle.links.specs.Search.{reachable, Ready}
 use Rattle.links.specs.Lattice.{nodes}
 use Rattle.links.proofs.LatticeLaws.{beside_node}
 use Rattle.links.proofs.VisitLaws.{visit_off, visit_not, visit_yes, squares-over, words-lent, squares-lent}
-use borrow.Author.Rules.{rules}
 use Rattle.links.proofs.search.visit.Goals as goal
 
 pub returns-in_default : goal.returns-in_default

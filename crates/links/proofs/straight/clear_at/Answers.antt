@@ -1,6 +1,5 @@
 -- `links::straight::clear_at` meets its contract. Assumes nothing.
 use Rattle.links.proofs.StraightLaws.{clear_there, clear_not}
-use borrow.Author.Rules.{rules}
 use Rattle.links.proofs.straight.clear_at.Goals as goal
 
 pub returns-then-allowed_at : goal.returns-then-allowed_at

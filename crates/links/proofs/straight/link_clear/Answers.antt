@@ -1,6 +1,5 @@
 -- `links::straight::link_clear` meets its contract. Assumes nothing.
 use Rattle.links.proofs.StraightLaws.{link-long, link-blocked, link-judged}
-use borrow.Author.Rules.{rules}
 use Rattle.links.proofs.straight.link_clear.Goals as goal
 
 pub returns-then-n-gt200000 : goal.returns-then-n-gt200000

@@ -1,6 +1,5 @@
 -- `links::straight::point_of` meets its contract. Assumes nothing.
 use Rattle.links.proofs.StraightLaws.{point-is}
-use borrow.Author.Rules.{rules}
 use Rattle.links.proofs.straight.point_of.Goals as goal
 
 pub returns : goal.returns

@@ -1,14 +1,10 @@
 -- `links::straight::samples_clear` meets its contract. The invariant: no sample before k is blocked. Assumes nothing.
-use mathlib.Core.Path.{◌≡◌, ap, ◌∙◌}
-use mathlib.Core.Bool.{false, not}
-use Prim.Native.Nat.{◌-◌, ◌+◌}
-use native.Mathlib.Omega.{arith}
-use borrow.Author.Rules.{rules}
+use mathlib.Core.Bool.{false}
+use Prim.Native.Nat.{◌+◌}
 use Rattle.loops.specs.Loop.{or_at}
-use Rattle.loops.proofs.LoopLaws.{Going, going_none, any-on, any_out, any_none}
+use Rattle.loops.proofs.LoopLaws.{Going}
 use Rattle.setup.specs.Tables.{less_of}
-use Rattle.links.specs.Straight.{sample_blocked, samples_clear}
-use Rattle.links.proofs.StraightLaws.{blocked-is}
+use Rattle.links.specs.Straight.{sample_blocked}
 use Rattle.links.proofs.straight.samples_clear.Given as goal
 
 abbrev pub invariant-loop-k : goal.invariant-loop-k

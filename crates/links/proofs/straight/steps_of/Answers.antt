@@ -1,6 +1,5 @@
 -- `links::straight::steps_of` meets its contract. Assumes nothing.
 use Rattle.links.proofs.StraightLaws.{steps_are}
-use borrow.Author.Rules.{rules}
 use Rattle.links.proofs.straight.steps_of.Goals as goal
 
 pub returns : goal.returns

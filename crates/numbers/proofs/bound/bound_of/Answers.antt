@@ -1,5 +1,5 @@
 -- `numbers::bound::bound_of` meets its contract. Assumes nothing.
-use Rattle.std.proofs.Common.{Bool, not, T, sym, refl, subst, rules}
+use Rattle.std.proofs.Common.{Bool, not, T, sym, refl, subst}
 use Rattle.floats.proofs.OrderLaws.{lt_numbers}
 use Rattle.numbers.proofs.BoundLaws.{answers_least, answers_near, answers_huge, answers_none}
 use Rattle.numbers.proofs.bound.bound_of.Goals as goal

@@ -1,5 +1,5 @@
 -- `numbers::bound::root_below` meets its contract. Assumes nothing.
-use Rattle.std.proofs.Common.{T, sym, ap, subst, rules}
+use Rattle.std.proofs.Common.{T, sym, ap, subst}
 use lib.Ieee.{Float, lt}
 use Rattle.numbers.proofs.BoundLaws.{bounds-from}
 use Rattle.numbers.proofs.bound.root_below.Goals as goal

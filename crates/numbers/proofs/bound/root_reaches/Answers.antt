@@ -1,5 +1,5 @@
 -- `numbers::bound::root_reaches` meets its contract. Assumes nothing.
-use Rattle.std.proofs.Common.{T, sym, ap, subst, rules}
+use Rattle.std.proofs.Common.{T, sym, ap, subst}
 use lib.Ieee.{le}
 use Rattle.numbers.proofs.BoundLaws.{bounds-from, reaches}
 use Rattle.numbers.proofs.bound.root_reaches.Goals as goal

@@ -1,5 +1,5 @@
 -- `numbers::bound::separates` meets its contract. Assumes nothing.
-use Rattle.std.proofs.Common.{arith, rules}
+use Rattle.std.proofs.Common.{arith}
 use Rattle.numbers.specs.Bound.{separated}
 use Rattle.numbers.proofs.RootLaws.{no_nan_bits}
 use Rattle.numbers.proofs.bound.separates.Goals as goal

@@ -1,5 +1,5 @@
 -- `numbers::cast::sat_u64` meets its contract. In range the function of `std` answers. Assumes nothing.
-use Rattle.std.proofs.Common.{T, sym, subst, rules}
+use Rattle.std.proofs.Common.{T, sym, subst}
 use lib.Ieee.{of_bits, neg}
 use Rattle.numbers.proofs.CastLaws.{over, under}
 use Rattle.numbers.proofs.cast.sat_u64.Goals as goal

@@ -1,5 +1,5 @@
 -- `numbers::circle::sin` meets its contract: an arm for each quadrant. Assumes nothing.
-use Rattle.std.proofs.Common.{◌≡◌, ℕ, sym, ap, ◌∙◌, le_trans, arith, lit≤, le→leb, rules}
+use Rattle.std.proofs.Common.{◌≡◌, ℕ, sym, ap, ◌∙◌, le_trans, arith, lit≤, le→leb}
 use lib.Ieee.{neg, in_float}
 use Rattle.numbers.specs.Circle.{rest, sin_at, sin_of}
 use Rattle.numbers.proofs.circle.sin.Goals as goal

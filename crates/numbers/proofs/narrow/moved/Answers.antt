@@ -1,5 +1,5 @@
 -- `numbers::narrow::moved` meets its contract. Assumes nothing.
-use Rattle.std.proofs.Common.{arith, rules}
+use Rattle.std.proofs.Common.{arith}
 use lib.Count.{leading_le}
 use Rattle.numbers.proofs.PartLaws.{z_low, z_high, shifted}
 use Rattle.numbers.proofs.narrow.moved.Goals as goal

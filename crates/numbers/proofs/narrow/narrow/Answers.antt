@@ -1,5 +1,5 @@
 -- `numbers::narrow::narrow` meets its contract, arm by arm. Assumes nothing.
-use Rattle.std.proofs.Common.{T, sym, subst, rules}
+use Rattle.std.proofs.Common.{T, sym, subst}
 use lib.Ieee.{binary64, fits, div, of_bits}
 use Rattle.numbers.proofs.WholeLaws.{turned}
 use Rattle.numbers.proofs.NarrowLaws.{narrow_neg, narrow_nan, narrow_zero}

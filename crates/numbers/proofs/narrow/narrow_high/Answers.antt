@@ -1,5 +1,5 @@
 -- `numbers::narrow::narrow_high` meets its contract: 53 digits stay where they are, and 24 of them are kept. Assumes nothing.
-use Rattle.std.proofs.Common.{◌≡◌, ℕ, ◌+◌, ◌-◌, ◌*◌, ◌/◌, ◌%◌, ◌^◌, ◌<◌, ◌≤◌, T, sym, ap, ◌∙◌, subst, ⊎_elim, le_of_eq, le_of_lt, mod-lt, arith, pow_pos}
+use Rattle.std.proofs.Common.{◌≡◌, ℕ, ◌+◌, ◌-◌, ◌*◌, ◌/◌, ◌%◌, ◌^◌, ◌<◌, ◌≤◌, T, sym, ap, ◌∙◌, subst, le_of_eq, le_of_lt, mod-lt, arith, pow_pos}
 use lib.Ieee.{binary32, binary64, fits, of_bits, to_bits}
 use lib.Ieee.Nearest.{closest}
 use Rattle.numbers.specs.Narrow.{narrow_of}

@@ -1,5 +1,5 @@
 -- `numbers::narrow::nearest_shift` meets its contract: `1 << (d - 1)` is half of 2 ^ d. Assumes nothing.
-use Rattle.std.proofs.Common.{◌≡◌, ℕ, suc, ◌+◌, ◌-◌, ◌*◌, ◌/◌, ◌%◌, ◌^◌, ◌<◌, ◌≤◌, sym, ap, ◌∙◌, subst, arith, pow_pos, pow_mono, rules}
+use Rattle.std.proofs.Common.{◌≡◌, ℕ, suc, ◌+◌, ◌-◌, ◌*◌, ◌/◌, ◌%◌, ◌^◌, ◌<◌, ◌≤◌, sym, ap, ◌∙◌, subst, arith, pow_pos, pow_mono}
 use native.Mathlib.Nat.{pow-succ'}
 use lib.Ieee.Nearest.{closest}
 use Rattle.numbers.proofs.PartLaws.{one_shl}

@@ -1,5 +1,5 @@
 -- `numbers::narrow::parts` meets its contract. Assumes nothing.
-use Rattle.std.proofs.Common.{ℕ, ◌+◌, ◌-◌, ◌/◌, ◌%◌, ◌^◌, ◌<◌, T, sym, subst, mod-lt, arith, pow_pos, rules}
+use Rattle.std.proofs.Common.{ℕ, ◌+◌, ◌-◌, ◌/◌, ◌%◌, ◌^◌, ◌<◌, T, sym, subst, mod-lt, arith, pow_pos}
 use lib.Bits.{and_mask}
 use lib.Ieee.{binary64, fits, to_bits}
 use Rattle.numbers.specs.Mantissa.{Shifted}

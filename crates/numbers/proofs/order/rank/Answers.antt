@@ -1,5 +1,5 @@
 -- `numbers::order::rank` meets its contract: a NaN apart, the pattern's two halves. Assumes nothing.
-use Rattle.std.proofs.Common.{◌^◌, Bool, not, T, sym, ap, ◌∙◌, subst, arith, rules, le-ltb, lt-ltb}
+use Rattle.std.proofs.Common.{◌^◌, Bool, not, T, sym, ap, ◌∙◌, subst, arith, le-ltb, lt-ltb}
 use lib.Ieee.{binary64, to_bits}
 use lib.Ieee.Bits.{to_bits-lt}
 use lib.Ieee.Compare.{differs_from_itself}

@@ -1,5 +1,4 @@
 -- `numbers::order::total_cmp` meets its contract. Assumes nothing.
-use Rattle.std.proofs.Common.{rules}
 use Rattle.numbers.proofs.OrderLaws.{total-less, total-greater, total_equal}
 use Rattle.numbers.proofs.order.total_cmp.Goals as goal
 

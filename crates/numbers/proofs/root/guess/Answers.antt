@@ -1,5 +1,5 @@
 -- `numbers::root::guess` is safe: no pattern that it reads or makes is a NaN's. Nothing is said of its answer. Assumes nothing.
-use Rattle.std.proofs.Common.{arith, rules}
+use Rattle.std.proofs.Common.{arith}
 use Rattle.numbers.proofs.OrderLaws.{no_nan_below}
 use Rattle.numbers.proofs.RootLaws.{no_nan_bits}
 use Rattle.numbers.proofs.root.guess.Goals as goal

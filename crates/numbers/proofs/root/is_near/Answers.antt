@@ -1,5 +1,5 @@
 -- `numbers::root::is_near` meets its contract: only the last line answers true. Assumes nothing.
-use Rattle.std.proofs.Common.{◌*◌, arith, rules, ltb-true}
+use Rattle.std.proofs.Common.{◌*◌, arith, ltb-true}
 use Rattle.loops.proofs.Cases.{never}
 use Rattle.numbers.proofs.RootLaws.{upper_few, middle-few, lower_few, near_halves}
 use Rattle.numbers.proofs.root.is_near.Goals as goal

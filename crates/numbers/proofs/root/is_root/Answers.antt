@@ -1,5 +1,5 @@
 -- `numbers::root::is_root` meets its contract: only a pattern whose digits `is_near` passes answers true. Assumes nothing.
-use Rattle.std.proofs.Common.{T, sym, subst, arith, rules}
+use Rattle.std.proofs.Common.{T, sym, subst, arith}
 use lib.Ieee.{nan_bits}
 use Rattle.loops.proofs.Cases.{never}
 use Rattle.numbers.proofs.OrderLaws.{no_nan_below}

@@ -1,5 +1,5 @@
 -- `numbers::root::likely` is safe: no pattern that it reads or makes is a NaN's. Nothing is said of its answer. Assumes nothing.
-use Rattle.std.proofs.Common.{◌/◌, ◌^◌, ◌<◌, T, sym, subst, arith, rules}
+use Rattle.std.proofs.Common.{◌/◌, ◌^◌, ◌<◌, T, sym, subst, arith}
 use lib.Ieee.{binary64, to_bits}
 use Rattle.numbers.proofs.PartLaws.{no_nan, field_lt}
 use Rattle.numbers.proofs.RootLaws.{no_nan_bits}

@@ -1,5 +1,4 @@
 -- `numbers::root::near_root` meets its contract: a guess that `is_near` passes, or half of the slow root. Nothing is known of the guess. Assumes nothing.
-use Rattle.std.proofs.Common.{rules}
 use Rattle.numbers.proofs.RootLaws.{half-root}
 use Rattle.numbers.proofs.root.near_root.Goals as goal
 

@@ -1,5 +1,5 @@
 -- `numbers::root::root_from` meets its contract: the pattern is the exponent's half and the digits of the root. Assumes nothing.
-use Rattle.std.proofs.Common.{arith, rules}
+use Rattle.std.proofs.Common.{arith}
 use Rattle.numbers.proofs.RootLaws.{at_most, result, root-few, no_nan_bits}
 use Rattle.numbers.proofs.root.root_from.Goals as goal
 

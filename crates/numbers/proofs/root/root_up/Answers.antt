@@ -1,5 +1,4 @@
 -- `numbers::root::root_up` meets its contract: a guess that `is_root` passes, or the root by whole numbers. Nothing is known of the guess. Assumes nothing.
-use Rattle.std.proofs.Common.{rules}
 use Rattle.numbers.proofs.root.root_up.Goals as goal
 
 pub returns-then-is_root : goal.returns-then-is_root

@@ -1,6 +1,5 @@
 -- `numbers::root::sqrt` meets its contract. Assumes nothing.
 use lib.Ieee.{of_bits, nan_bits, div}
-use Rattle.std.proofs.Common.{rules}
 use Rattle.numbers.proofs.NarrowLaws.{pos_of}
 use Rattle.numbers.proofs.RootLaws.{root-top, root_zero, root_none}
 use Rattle.numbers.proofs.root.sqrt.Goals as goal

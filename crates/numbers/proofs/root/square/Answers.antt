@@ -1,5 +1,5 @@
 -- `numbers::root::square` meets its contract. Assumes nothing.
-use Rattle.std.proofs.Common.{ℕ, ◌*◌, ◌/◌, ◌%◌, ◌^◌, ◌<◌, sym, mod-lt, arith, pow_pos, rules}
+use Rattle.std.proofs.Common.{ℕ, ◌*◌, ◌/◌, ◌%◌, ◌^◌, ◌<◌, sym, mod-lt, arith, pow_pos}
 use Rattle.numbers.proofs.RootLaws.{halves, product_lt}
 use Rattle.numbers.proofs.root.square.Goals as goal
 

@@ -1,5 +1,5 @@
 -- `numbers::root::square_le` meets its contract. Assumes nothing.
-use Rattle.std.proofs.Common.{◌≡◌, ℕ, ◌+◌, ◌*◌, ◌^◌, ◌<◌, Bool, ◌&&◌, ◌||◌, eqb, ltb, leb, sym, ap, ◌∙◌, arith, lit<, rules, eqb-true, le-leb, leb-false, leb-true}
+use Rattle.std.proofs.Common.{◌≡◌, ℕ, ◌+◌, ◌*◌, ◌^◌, ◌<◌, Bool, ◌&&◌, ◌||◌, eqb, ltb, leb, sym, ap, ◌∙◌, arith, lit<, eqb-true, le-leb, leb-false, leb-true}
 use borrow.Author.Tests.{eqb-false, lt-leb}
 use Rattle.loops.proofs.Cases.{by_cases}
 use Rattle.numbers.proofs.RootLaws.{two-words}

@@ -1,6 +1,5 @@
 -- `numbers::root::whole_root` meets its contract. Assumes nothing.
 use Rattle.numbers.proofs.RootLaws.{whole-root-is}
-use Rattle.std.proofs.Common.{rules}
 use Rattle.numbers.proofs.root.whole_root.Goals as goal
 
 pub returns : goal.returns

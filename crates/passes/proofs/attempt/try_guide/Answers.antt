@@ -3,7 +3,6 @@ use mathlib.Core.Path.{sym, ◌∙◌}
 use native.Mathlib.Omega.{arith}
 use Rattle.rims.proofs.TileLaws.{tiles_long}
 use Rattle.passes.proofs.AttemptLaws.{tried-logged, tried-back, tried-room, tried-full, tried-worth, tried-nothing}
-use borrow.Author.Rules.{rules}
 use Rattle.passes.proofs.attempt.try_guide.Goals as goal
 
 pub slice_bounds-fill-end : goal.slice_bounds-fill-end

@@ -2,7 +2,6 @@
 use mathlib.Core.Path.{refl, sym, ◌∙◌}
 use Rattle.loops.specs.Regions.{within}
 use Rattle.passes.proofs.PieceLaws.{start-walls, start-rim, start-point, start-tried, start_none, start_lays, start_spread, start-laid, start_is}
-use borrow.Author.Rules.{rules}
 use Rattle.passes.proofs.attempt.try_start.Goals as goal
 
 pub lay_guide-requires : goal.lay_guide-requires

@@ -1,7 +1,6 @@
 -- `passes::guide::after` meets its contract. Assumes nothing.
 use native.Mathlib.Omega.{arith}
 use Rattle.passes.proofs.GuideLaws.{after_next, after_last}
-use borrow.Author.Rules.{rules}
 use Rattle.passes.proofs.guide.after.Goals as goal
 
 pub returns-then-k-guide : goal.returns-then-k-guide

@@ -1,6 +1,5 @@
 -- `passes::guide::along` meets its contract. Assumes nothing.
 use Rattle.passes.proofs.GuideLaws.{along_more, along-none}
-use borrow.Author.Rules.{rules}
 use Rattle.passes.proofs.guide.along.Goals as goal
 
 pub returns-then-k-gt0 : goal.returns-then-k-gt0

@@ -1,8 +1,5 @@
 -- `passes::guide::bend` meets its contract. The invariant: the points before k are bent, and those from k on are as they were. Assumes nothing.
-use Prim.Native.Nat.{◌-◌}
-use native.Mathlib.Omega.{arith}
-use Rattle.passes.proofs.GuideLaws.{Bending, bending_none, bending_more, bending_out, bending_end, after-long}
-use borrow.Author.Rules.{rules}
+use Rattle.passes.proofs.GuideLaws.{Bending}
 use Rattle.passes.proofs.guide.bend.Given as goal
 
 abbrev pub invariant-loop-k : goal.invariant-loop-k

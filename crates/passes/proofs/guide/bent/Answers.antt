@@ -1,6 +1,5 @@
 -- `passes::guide::bent` meets its contract. Assumes nothing.
 use Rattle.passes.proofs.GuideLaws.{bent_is}
-use borrow.Author.Rules.{rules}
 use Rattle.passes.proofs.guide.bent.Goals as goal
 
 pub returns : goal.returns

@@ -1,7 +1,6 @@
 -- `passes::guide::blend_in` meets its contract. Assumes nothing.
 use Rattle.loops.specs.Regions.{within}
 use Rattle.passes.proofs.LayLaws.{part_some, blend_none, blend_some}
-use borrow.Author.Rules.{rules}
 use Rattle.passes.proofs.guide.blend_in.Goals as goal
 
 pub choose-b-requires : goal.choose-b-requires

@@ -1,14 +1,11 @@
 -- `passes::guide::choose` meets its contract. The invariant: no way out before k serves. Assumes nothing.
-use Prim.Native.Nat.{◌-◌, ◌/◌}
-use native.Mathlib.Omega.{arith}
+use Prim.Native.Nat.{◌/◌}
 use lib.ListN.{length}
 use Rattle.loops.specs.Loop.{on, turn}
-use Rattle.loops.proofs.LoopLaws.{Going, going_none, going_on, going_out, going_end}
+use Rattle.loops.proofs.LoopLaws.{Going}
 use Rattle.geom.specs.Points.{points}
 use Rattle.setup.specs.Place.{allowed_at, free_at}
 use Rattle.passes.specs.Guide.{attempt}
-use Rattle.passes.proofs.GuideLaws.{len_is, attempt-yes, attempt-no, choose_short, choose_out, choose_none}
-use borrow.Author.Rules.{rules}
 use Rattle.passes.proofs.guide.choose.Given as goal
 
 abbrev pub invariant-loop-k : goal.invariant-loop-k

@@ -1,7 +1,6 @@
 -- `passes::guide::first_bent` meets its contract. Assumes nothing.
 use Rattle.passes.proofs.SimulateLaws.{half-some}
 use Rattle.passes.proofs.GuideLaws.{first-stays, first_bends}
-use borrow.Author.Rules.{rules}
 use Rattle.passes.proofs.guide.first_bent.Goals as goal
 
 pub returns-then-len : goal.returns-then-len

@@ -1,6 +1,5 @@
 -- `passes::guide::lay_guide` meets its contract. Assumes nothing.
 use Rattle.passes.proofs.LayLaws.{lay_walls, lay_low, lay_high, lay_is}
-use borrow.Author.Rules.{rules}
 use Rattle.passes.proofs.guide.lay_guide.Goals as goal
 
 pub blend_in-requires : goal.blend_in-requires

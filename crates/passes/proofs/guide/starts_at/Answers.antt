@@ -1,7 +1,6 @@
 -- `passes::guide::starts_at` meets its contract. Assumes nothing.
 use Rattle.setup.specs.Place.{allowed_at, free_at}
 use Rattle.passes.proofs.GuideLaws.{starts_yes, starts_no}
-use borrow.Author.Rules.{rules}
 use Rattle.passes.proofs.guide.starts_at.Goals as goal
 
 pub returns-then-allowed_at : goal.returns-then-allowed_at

@@ -1,12 +1,6 @@
 -- `passes::guide::total` meets its contract. Assumes nothing.
-use Prim.Native.Nat.{◌-◌}
-use native.Mathlib.Omega.{arith}
-use Rattle.loops.proofs.LoopLaws.{Going, going_none, going_more, going_end}
-use Rattle.geom.specs.Vec.{f0}
-use Rattle.geom.specs.Points.{points}
-use Rattle.passes.specs.Guide.{add_leg}
+use Rattle.loops.proofs.LoopLaws.{going_none, going_more, going_end}
 use Rattle.passes.proofs.GuideLaws.{leg_added, total-is}
-use borrow.Author.Rules.{rules}
 use Rattle.passes.proofs.guide.total.Goals as goal
 
 pub loop-k-init : goal.loop-k-init

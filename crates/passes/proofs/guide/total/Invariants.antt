@@ -1,12 +1,8 @@
 -- `passes::guide::total` meets its contract. Assumes nothing.
-use Prim.Native.Nat.{◌-◌}
-use native.Mathlib.Omega.{arith}
-use Rattle.loops.proofs.LoopLaws.{Going, going_none, going_more, going_end}
+use Rattle.loops.proofs.LoopLaws.{Going}
 use Rattle.geom.specs.Vec.{f0}
 use Rattle.geom.specs.Points.{points}
 use Rattle.passes.specs.Guide.{add_leg}
-use Rattle.passes.proofs.GuideLaws.{leg_added, total-is}
-use borrow.Author.Rules.{rules}
 use Rattle.passes.proofs.guide.total.Given as goal
 
 abbrev pub invariant-loop-k : goal.invariant-loop-k

@@ -1,10 +1,9 @@
 -- `passes::guide::walk` meets its contract. The invariant: the points so far are laid. Assumes nothing.
 use mathlib.Core.Path.{◌≡◌, refl}
-use Prim.Native.Nat.{◌+◌, ◌-◌, ◌*◌, ◌≤◌, ◌<◌}
+use Prim.Native.Nat.{◌+◌, ◌*◌, ◌<◌}
 use lib.ListN.{length, length-set}
 use native.Mathlib.Omega.{arith}
-use Rattle.passes.proofs.LayLaws.{Walked, walking_none, walking_long, walking_in, walking_more, walking_end}
-use borrow.Author.Rules.{rules}
+use Rattle.passes.proofs.LayLaws.{walking_none, walking_long, walking_in, walking_more, walking_end}
 use Rattle.passes.proofs.guide.walk.Goals as goal
 use Rattle.passes.proofs.guide.walk.Goals.{After-round_to-j}
 

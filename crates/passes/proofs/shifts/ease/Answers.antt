@@ -1,6 +1,5 @@
 -- `passes::shifts::ease` meets its contract. Assumes nothing.
 use Rattle.passes.proofs.ShiftLaws.{ease_some, ease_none}
-use borrow.Author.Rules.{rules}
 use Rattle.passes.proofs.shifts.ease.Goals as goal
 
 pub returns-then-shift : goal.returns-then-shift

@@ -1,14 +1,9 @@
 -- `passes::shifts::find_shift` meets its contract. The invariant: the tries so far found no shift, and `sh` and `w` are what they leave. Assumes nothing.
-use Prim.Native.Nat.{◌-◌}
 use native.Mathlib.Omega.{arith}
-use Rattle.loops.specs.Loop.{on, turn}
-use Rattle.loops.proofs.LoopLaws.{Going, going_none, going_on, going_out, going_end}
-use Rattle.setup.specs.Place.{allowed_at}
-use Rattle.passes.specs.Shifts.{sk, look}
+use Rattle.loops.proofs.LoopLaws.{going_none, going_on, going_out, going_end}
 use Rattle.passes.proofs.ShiftLaws.{search_eased, search_outward, look-far, look-found, look-on, outward-out, outward-on}
 use mathlib.Core.Path.{ap}
 use mathlib.Core.Bool.{not}
-use borrow.Author.Rules.{rules}
 use Rattle.passes.proofs.shifts.find_shift.Goals as goal
 
 pub returns-in-At : goal.returns-in-At

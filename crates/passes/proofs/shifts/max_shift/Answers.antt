@@ -1,6 +1,5 @@
 -- `passes::shifts::max_shift` meets its contract. Assumes nothing.
 use Rattle.passes.proofs.ShiftLaws.{max_is}
-use borrow.Author.Rules.{rules}
 use Rattle.passes.proofs.shifts.max_shift.Goals as goal
 
 pub returns : goal.returns

@@ -1,6 +1,5 @@
 -- `passes::shifts::moved` meets its contract. Assumes nothing.
 use Rattle.passes.proofs.ShiftLaws.{moved-is}
-use borrow.Author.Rules.{rules}
 use Rattle.passes.proofs.shifts.moved.Goals as goal
 
 pub returns : goal.returns

@@ -1,6 +1,5 @@
 -- `passes::shifts::probe_at` meets its contract. Assumes nothing.
 use Rattle.passes.proofs.ShiftLaws.{probe_yes, probe_no}
-use borrow.Author.Rules.{rules}
 use Rattle.passes.proofs.shifts.probe_at.Goals as goal
 
 pub returns-then-allowed_at : goal.returns-then-allowed_at

@@ -1,7 +1,6 @@
 -- `passes::shifts::sat_add` meets its contract. Assumes nothing.
 use native.Mathlib.Omega.{arith}
 use Rattle.passes.specs.Shifts.{sat_add}
-use borrow.Author.Rules.{rules}
 use Rattle.passes.proofs.shifts.sat_add.Goals as goal
 
 pub returns-then-b-a : goal.returns-then-b-a

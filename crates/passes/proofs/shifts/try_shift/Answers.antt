@@ -1,6 +1,5 @@
 -- `passes::shifts::try_shift` meets its contract. Assumes nothing.
 use Rattle.passes.proofs.ShiftLaws.{try_taken, try_left, try_barred}
-use borrow.Author.Rules.{rules}
 use Rattle.passes.proofs.shifts.try_shift.Goals as goal
 
 pub returns-then-e-limit : goal.returns-then-e-limit

@@ -1,6 +1,5 @@
 -- `passes::start::greater` meets its contract. Assumes nothing.
 use Rattle.passes.specs.Start.{is_greater}
-use borrow.Author.Rules.{rules}
 use Rattle.passes.proofs.start.greater.Goals as goal
 
 pub returns-in-Less : goal.returns-in-Less

@@ -1,7 +1,6 @@
 -- `passes::start::is_nearer` meets its contract. Assumes nothing.
 use mathlib.Core.Path.{◌∙◌}
 use Rattle.passes.proofs.StartLaws.{nearer_by}
-use borrow.Author.Rules.{rules}
 use Rattle.passes.proofs.start.is_nearer.Goals as goal
 
 pub returns : goal.returns

@@ -1,6 +1,5 @@
 -- `passes::start::near_start` meets its contract. Assumes nothing.
 use Rattle.passes.proofs.StartLaws.{near_none, near-some}
-use borrow.Author.Rules.{rules}
 use Rattle.passes.proofs.start.near_start.Goals as goal
 
 pub returns-in_default : goal.returns-in_default

@@ -1,6 +1,5 @@
 -- `passes::start::nearer` meets its contract. Assumes nothing.
 use Rattle.passes.proofs.StartLaws.{nearer_new, nearer_old}
-use borrow.Author.Rules.{rules}
 use Rattle.passes.proofs.start.nearer.Goals as goal
 
 pub returns-then-is_nearer : goal.returns-then-is_nearer

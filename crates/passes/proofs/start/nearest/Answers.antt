@@ -1,9 +1,7 @@
 -- `passes::start::nearest` meets its contract. Assumes nothing.
-use Prim.Native.Nat.{◌-◌}
 use native.Mathlib.Omega.{arith}
 use Rattle.passes.proofs.SimulateLaws.{half-some}
-use Rattle.passes.proofs.StartLaws.{Nearest, near_first, near-turn, near-end}
-use borrow.Author.Rules.{rules}
+use Rattle.passes.proofs.StartLaws.{near_first, near-turn, near-end}
 use Rattle.passes.proofs.start.nearest.Goals as goal
 
 pub vertex-requires : goal.vertex-requires

@@ -3,7 +3,6 @@ use mathlib.Core.Path.{refl}
 use native.Mathlib.Omega.{arith}
 use native.Mathlib.Nat.{mul-le-mul_right, suc-mul}
 use Rattle.passes.specs.Start.{start_of}
-use borrow.Author.Rules.{rules}
 use Rattle.passes.proofs.start.start_of.Goals as goal
 
 pub overflow_mul-result : goal.overflow_mul-result

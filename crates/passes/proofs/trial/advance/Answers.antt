@@ -1,7 +1,6 @@
 -- `passes::trial::advance` meets its contract. Assumes nothing.
 use Rattle.loops.specs.Regions.{within}
 use Rattle.passes.proofs.SimulateLaws.{advance_is}
-use borrow.Author.Rules.{rules}
 use Rattle.passes.proofs.trial.advance.Goals as goal
 
 pub clear_crescent-n-requires : goal.clear_crescent-n-requires

@@ -1,6 +1,5 @@
 -- `passes::trial::gap` meets its contract. Assumes nothing.
 use Rattle.passes.proofs.SimulateLaws.{gap_is}
-use borrow.Author.Rules.{rules}
 use Rattle.passes.proofs.trial.gap.Goals as goal
 
 pub returns : goal.returns

@@ -1,6 +1,5 @@
 -- `passes::trial::leg_at` meets its contract. Assumes nothing.
 use Rattle.passes.proofs.SimulateLaws.{leg_ends}
-use borrow.Author.Rules.{rules}
 use Rattle.passes.proofs.trial.leg_at.Goals as goal
 
 pub returns : goal.returns

@@ -1,6 +1,5 @@
 -- `passes::trial::leg_of` meets its contract. Assumes nothing.
 use Rattle.passes.proofs.SimulateLaws.{leg_short, leg_one, leg_more}
-use borrow.Author.Rules.{rules}
 use Rattle.passes.proofs.trial.leg_of.Goals as goal
 
 pub returns-then-length : goal.returns-then-length

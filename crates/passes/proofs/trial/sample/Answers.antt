@@ -1,6 +1,5 @@
 -- `passes::trial::sample` meets its contract. Assumes nothing.
 use Rattle.passes.proofs.SimulateLaws.{sample_is}
-use borrow.Author.Rules.{rules}
 use Rattle.passes.proofs.trial.sample.Goals as goal
 
 pub returns : goal.returns

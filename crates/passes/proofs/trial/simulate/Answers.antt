@@ -1,24 +1,22 @@
 -- `passes::trial::simulate` meets its contract. The invariants: the pass is what the legs so far, and in the leg the samples so far, leave (`Going`), and lengths, room and where no stock is are kept (`Safe`). Each `break 'outer` goes by `leaves`. Assumes nothing.
 use mathlib.Core.Bool.{false}
 use mathlib.Core.Path.{◌≡◌, ap, ◌∙◌}
-use Prim.Native.Nat.{◌-◌, ◌/◌, ◌≤◌}
+use Prim.Native.Nat.{◌/◌, ◌≤◌}
 use native.Mathlib.Omega.{arith}
-use borrow.Author.Rules.{rules}
 use lib.ListN.{length}
 use Prim.Native.Nat.{ℕ}
 use mathlib.Core.List.{List}
 use lib.Ieee.{Float}
 use Rattle.geom.specs.declared.vec2.Vec2.{Vec2}
-use Rattle.loops.specs.Loop.{Run, on, turn}
-use Rattle.loops.proofs.LoopLaws.{Going, going_none, going_on, going_out, going_end}
+use Rattle.loops.specs.Loop.{Run}
+use Rattle.loops.proofs.LoopLaws.{going_none, going_on, going_out, going_end}
 use Rattle.geom.specs.Vec.{f0}
 use Rattle.geom.specs.Points.{points}
 use Rattle.rims.proofs.TileLaws.{tiled_fewer}
 use Rattle.setup.specs.Place.{allowed_at}
 use Rattle.events.specs.Lent.{triple_at}
-use Rattle.passes.specs.Simulate.{Pass, ps, tr, sample_step, leg_step, simulate_of}
+use Rattle.passes.specs.Simulate.{Pass, ps, tr, sample_step, simulate_of}
 use Rattle.passes.proofs.SimulateLaws.{Safe, safe_start, safe_again, safe_then, safe_spent, safe_on, fit_of_lem, over-same, room_then, full_then, half-some, turn-none, turn_gap, turn-full, turn_on, leg_on, leg_out, pass-full, pass_on, pass-out, long-put}
-use borrow.Author.Rules.{rules}
 use Rattle.passes.proofs.trial.simulate.Goals as goal
 use Rattle.passes.proofs.trial.simulate.Goals.{At-loop-k, At-outer, In-loop-k}
 

@@ -1,12 +1,7 @@
 -- `passes::worth::cut_length` meets its contract. Assumes nothing.
-use Prim.Native.Nat.{◌-◌}
 use native.Mathlib.Omega.{arith}
-use Rattle.loops.proofs.LoopLaws.{Going, going_none, going_more, going_end}
-use Rattle.geom.specs.Vec.{f0}
-use Rattle.passes.specs.Guide.{add_leg}
-use Rattle.passes.specs.Worth.{spots_from}
+use Rattle.loops.proofs.LoopLaws.{going_none, going_more, going_end}
 use Rattle.passes.proofs.WorthLaws.{spots_leg, spots-total}
-use borrow.Author.Rules.{rules}
 use Rattle.passes.proofs.worth.cut_length.Goals as goal
 
 pub loop-k-init : goal.loop-k-init

@@ -1,6 +1,5 @@
 -- `passes::worth::wanted` meets its contract. Assumes nothing.
 use Rattle.passes.proofs.WorthLaws.{wanted-is, four_least, four_over}
-use borrow.Author.Rules.{rules}
 use Rattle.passes.proofs.worth.wanted.Goals as goal
 
 pub returns-then-n-lt4 : goal.returns-then-n-lt4

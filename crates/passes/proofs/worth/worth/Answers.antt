@@ -1,6 +1,5 @@
 -- `passes::worth::worth` meets its contract. Assumes nothing.
 use Rattle.passes.proofs.WorthLaws.{worth-few, worth_by}
-use borrow.Author.Rules.{rules}
 use Rattle.passes.proofs.worth.worth.Goals as goal
 
 pub returns-then-removed-least : goal.returns-then-removed-least

@@ -1,9 +1,7 @@
 -- `pieces::row::put_row` meets its contract. Assumes nothing.
-use mathlib.Core.Logic.{⊎_elim}
 use native.Mathlib.Omega.{arith}
 use lib.ListN.{length-set}
 use Rattle.pieces.specs.Piece.{put_row}
-use borrow.Author.Rules.{rules}
 use Rattle.pieces.proofs.row.put_row.Goals as goal
 use Rattle.pieces.proofs.row.put_row.Goals.{else-p, then-p}
 

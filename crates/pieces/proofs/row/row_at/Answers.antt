@@ -1,7 +1,6 @@
 -- `pieces::row::row_at` meets its contract. Assumes nothing.
 use mathlib.Core.Path.{refl}
 use Rattle.pieces.specs.Piece.{row_at}
-use borrow.Author.Rules.{rules}
 use Rattle.pieces.proofs.row.row_at.Goals as goal
 
 pub returns : goal.returns

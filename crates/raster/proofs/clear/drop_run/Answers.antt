@@ -1,10 +1,8 @@
 -- `raster::clear::drop_run` meets its contract. The invariant: the map and the count are what the turns so far leave. Assumes nothing.
 use mathlib.Core.Path.{◌∙◌}
-use mathlib.Core.Logic.{⊎_elim}
-use Prim.Native.Nat.{◌-◌}
 use native.Mathlib.Omega.{arith}
-use Rattle.loops.proofs.LoopLaws.{Going, going_none, going_more, going_end}
-use Rattle.raster.specs.Stock.{cl, drop_cell}
+use Rattle.loops.proofs.LoopLaws.{going_none, going_more, going_end}
+use Rattle.raster.specs.Stock.{cl}
 use Rattle.raster.proofs.StockLaws.{Left, going_left, fair_left, drop-taken, drop_passed, cl_eq}
 use Rattle.raster.proofs.clear.drop_run.Goals as goal
 use Rattle.raster.proofs.clear.drop_run.Goals.{else-map-k-eq1, then-map-k-eq1}

@@ -1,11 +1,6 @@
 -- `raster::clear::drop_run` meets its contract. The invariant: the map and the count are what the turns so far leave. Assumes nothing.
-use mathlib.Core.Path.{◌∙◌}
-use mathlib.Core.Logic.{⊎_elim}
-use Prim.Native.Nat.{◌-◌}
-use native.Mathlib.Omega.{arith}
-use Rattle.loops.proofs.LoopLaws.{Going, going_none, going_more, going_end}
+use Rattle.loops.proofs.LoopLaws.{Going}
 use Rattle.raster.specs.Stock.{cl, drop_cell}
-use Rattle.raster.proofs.StockLaws.{Left, going_left, fair_left, drop-taken, drop_passed, cl_eq}
 use Rattle.raster.proofs.clear.drop_run.Given as goal
 
 abbrev pub invariant-loop-k : goal.invariant-loop-k

@@ -1,6 +1,5 @@
 -- `raster::contact::angle_of` meets its contract. Assumes nothing.
 use Rattle.raster.specs.Contact.{angle_of}
-use borrow.Author.Rules.{rules}
 use Rattle.raster.proofs.contact.angle_of.Goals as goal
 
 pub returns : goal.returns

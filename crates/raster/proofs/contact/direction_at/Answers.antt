@@ -1,6 +1,5 @@
 -- `raster::contact::direction_at` meets its contract. Assumes nothing.
 use Rattle.raster.specs.Contact.{direction_at}
-use borrow.Author.Rules.{rules}
 use Rattle.raster.proofs.contact.direction_at.Goals as goal
 
 pub returns : goal.returns

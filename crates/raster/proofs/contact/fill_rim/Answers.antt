@@ -1,11 +1,10 @@
 -- `raster::contact::fill_rim` meets its contract. The invariant: the table is what the samples so far leave. Assumes nothing.
 use mathlib.Core.Path.{◌≡◌, ap, ◌∙◌}
-use Prim.Native.Nat.{◌-◌, ◌+◌, ◌*◌, ◌<◌}
+use Prim.Native.Nat.{◌+◌, ◌*◌, ◌<◌}
 use native.Mathlib.Omega.{arith}
 use lib.ListN.{length, length-set}
-use borrow.Author.Rules.{rules}
-use Rattle.loops.proofs.LoopLaws.{Going, going_none, going_more, going_end}
-use Rattle.raster.specs.Contact.{put_rim, rimmed}
+use Rattle.loops.proofs.LoopLaws.{going_none, going_more, going_end}
+use Rattle.raster.specs.Contact.{rimmed}
 use Rattle.raster.proofs.ContactLaws.{rim-long, rim-is, put_is}
 use Rattle.raster.proofs.contact.fill_rim.Goals as goal
 use Rattle.raster.proofs.contact.fill_rim.Goals.{At-loop-k, In-loop-k}

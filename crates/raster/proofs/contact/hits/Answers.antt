@@ -1,12 +1,10 @@
 -- `raster::contact::hits` meets its contract. The invariant: the hits are those of the samples so far. Assumes nothing.
 use mathlib.Core.Path.{sym, ap, ◌∙◌}
-use mathlib.Core.Logic.{⊎_elim}
-use Prim.Native.Nat.{◌-◌, ◌≤◌}
+use Prim.Native.Nat.{◌≤◌}
 use native.Mathlib.Omega.{arith}
-use borrow.Author.Rules.{rules}
-use Rattle.loops.proofs.LoopLaws.{Going, going_none, going_more, going_end}
+use Rattle.loops.proofs.LoopLaws.{going_none, going_more, going_end}
 use Rattle.raster.specs.Grid.{stock_at}
-use Rattle.raster.specs.Contact.{hit_at, hits_of}
+use Rattle.raster.specs.Contact.{hits_of}
 use Rattle.raster.proofs.ContactLaws.{rim-point, hit_yes, hit_no, hits-most}
 use Rattle.raster.proofs.contact.hits.Goals as goal
 use Rattle.raster.proofs.contact.hits.Goals.{else-at, then-at}

@@ -1,7 +1,6 @@
 -- `raster::contact::rim_contact` meets its contract. Assumes nothing.
 use mathlib.Core.Path.{sym}
 use Rattle.raster.proofs.ContactLaws.{rim-same, contact-is}
-use borrow.Author.Rules.{rules}
 use Rattle.raster.proofs.contact.rim_contact.Goals as goal
 
 pub hits-requires : goal.hits-requires

@@ -1,6 +1,5 @@
 -- `raster::disk::chord` meets its contract. Assumes nothing.
 use Rattle.raster.proofs.DiskLaws.{chord_none, chord_some}
-use borrow.Author.Rules.{rules}
 use Rattle.raster.proofs.disk.chord.Goals as goal
 
 pub returns-then-h2 : goal.returns-then-h2

@@ -1,6 +1,5 @@
 -- `raster::disk::cols_between` meets its contract. Assumes nothing.
 use Rattle.raster.proofs.DiskLaws.{between_none, between-past, between_are}
-use borrow.Author.Rules.{rules}
 use Rattle.raster.proofs.disk.cols_between.Goals as goal
 
 pub returns-then-k1-k0 : goal.returns-then-k1-k0

@@ -5,7 +5,6 @@ use lib.IntN.{pos}
 use lib.Ieee.{fin, lt, le, of_bits}
 use Rattle.loops.proofs.Cases.{both}
 use Rattle.raster.proofs.DiskLaws.{place_floor, from-whole, from_floats}
-use borrow.Author.Rules.{rules}
 use Rattle.raster.proofs.disk.cols_from.Goals as goal
 use Rattle.raster.proofs.disk.cols_from.Goals.{Then-x0-x1}
 

@@ -1,7 +1,6 @@
 -- `raster::disk::cols_of` meets its contract. Assumes nothing.
 use Rattle.raster.proofs.DiskLaws.{cols_past, cols_are}
 use Rattle.raster.specs.Disk.{cols_of}
-use borrow.Author.Rules.{rules}
 use Rattle.raster.proofs.disk.cols_of.Goals as goal
 
 pub returns-then-i1 : goal.returns-then-i1

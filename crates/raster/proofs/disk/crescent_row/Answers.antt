@@ -1,6 +1,5 @@
 -- `raster::disk::crescent_row` meets its contract. Assumes nothing.
 use Rattle.raster.proofs.DiskLaws.{crescent-is}
-use borrow.Author.Rules.{rules}
 use Rattle.raster.proofs.disk.crescent_row.Goals as goal
 
 pub returns : goal.returns

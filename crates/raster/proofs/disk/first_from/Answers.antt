@@ -1,6 +1,5 @@
 -- `raster::disk::first_from` meets its contract. Assumes nothing.
 use Rattle.raster.proofs.DiskLaws.{first-is}
-use borrow.Author.Rules.{rules}
 use Rattle.raster.proofs.disk.first_from.Goals as goal
 
 pub returns : goal.returns

@@ -1,7 +1,6 @@
 -- `raster::disk::last_row` meets its contract. Assumes nothing.
 use Rattle.raster.proofs.DiskLaws.{last-is}
 use Rattle.raster.specs.Disk.{last_row}
-use borrow.Author.Rules.{rules}
 use Rattle.raster.proofs.disk.last_row.Goals as goal
 
 pub returns-then-j1 : goal.returns-then-j1

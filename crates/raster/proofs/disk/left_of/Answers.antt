@@ -1,7 +1,6 @@
 -- `raster::disk::left_of` meets its contract. Assumes nothing.
 use borrow.Author.Tests.{lt-ltb, le-ltb}
 use Rattle.raster.specs.Disk.{left_of}
-use borrow.Author.Rules.{rules}
 use Rattle.raster.proofs.disk.left_of.Goals as goal
 
 pub returns-then-i0-p0 : goal.returns-then-i0-p0

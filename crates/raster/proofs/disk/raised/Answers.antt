@@ -1,6 +1,5 @@
 -- `raster::disk::raised` meets its contract. Assumes nothing.
 use Rattle.raster.proofs.DiskLaws.{raised_more, raised_not}
-use borrow.Author.Rules.{rules}
 use Rattle.raster.proofs.disk.raised.Goals as goal
 
 pub returns-then-t-x : goal.returns-then-t-x

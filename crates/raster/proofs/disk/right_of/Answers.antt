@@ -1,7 +1,6 @@
 -- `raster::disk::right_of` meets its contract. Assumes nothing.
 use borrow.Author.Tests.{lt-ltb, le-ltb}
 use Rattle.raster.specs.Disk.{right_of}
-use borrow.Author.Rules.{rules}
 use Rattle.raster.proofs.disk.right_of.Goals as goal
 
 pub returns-then-p1-i1 : goal.returns-then-p1-i1

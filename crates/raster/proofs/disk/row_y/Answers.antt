@@ -1,6 +1,5 @@
 -- `raster::disk::row_y` meets its contract. Assumes nothing.
 use Rattle.raster.specs.Disk.{row_y}
-use borrow.Author.Rules.{rules}
 use Rattle.raster.proofs.disk.row_y.Goals as goal
 
 pub returns : goal.returns

@@ -1,6 +1,5 @@
 -- `raster::disk::rows_of` meets its contract. Assumes nothing.
 use Rattle.raster.proofs.DiskLaws.{rows_are}
-use borrow.Author.Rules.{rules}
 use Rattle.raster.proofs.disk.rows_of.Goals as goal
 
 pub returns : goal.returns

@@ -1,6 +1,5 @@
 -- `raster::disk::span_less` meets its contract. Assumes nothing.
 use Rattle.raster.proofs.DiskLaws.{less_none, less-all, less_two, less-before, less-after}
-use borrow.Author.Rules.{rules}
 use Rattle.raster.proofs.disk.span_less.Goals as goal
 
 pub returns-then-i0-p1 : goal.returns-then-i0-p1

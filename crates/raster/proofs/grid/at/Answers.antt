@@ -4,7 +4,6 @@ use native.Mathlib.Omega.{arith}
 use Rattle.raster.specs.Grid.{numbered}
 use Rattle.raster.specs.declared.grid.CellNo.{CellNo}
 use Rattle.raster.proofs.GridLaws.{on-grid-at, number-below, stock-none, stock-some}
-use borrow.Author.Rules.{rules}
 use Rattle.raster.proofs.grid.at.Goals as goal
 
 pub cell_of-f-requires : goal.cell_of-f-requires

@@ -2,7 +2,6 @@
 use mathlib.Core.Path.{refl}
 use native.Mathlib.Omega.{arith}
 use Rattle.raster.proofs.GridLaws.{low_index, high_index, none-column, none_row, past-column, past_row, found_at}
-use borrow.Author.Rules.{rules}
 use Rattle.raster.proofs.grid.cell_of.Goals as goal
 
 pub returns-then-j-g : goal.returns-then-j-g

@@ -1,6 +1,5 @@
 -- `raster::grid::center` meets its contract. Assumes nothing.
 use Rattle.raster.specs.Grid.{center_of}
-use borrow.Author.Rules.{rules}
 use Rattle.raster.proofs.grid.center.Goals as goal
 
 pub returns : goal.returns

@@ -1,5 +1,4 @@
 -- `raster::grid::is_fit` meets its contract. Assumes nothing.
-use borrow.Author.Rules.{rules}
 use Rattle.raster.specs.Grid.{fit_of}
 use Rattle.raster.proofs.grid.is_fit.Goals as goal
 

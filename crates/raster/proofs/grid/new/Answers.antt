@@ -1,6 +1,5 @@
 -- `raster::grid::new` meets its contract. Assumes nothing.
 use mathlib.Core.Path.{sym, ◌∙◌}
-use borrow.Author.Rules.{rules}
 use Rattle.raster.specs.Grid.{new_grid}
 use Rattle.raster.proofs.grid.new.Goals as goal
 

@@ -2,7 +2,6 @@
 use mathlib.Core.Path.{ap, ◌∙◌}
 use lib.Ieee.{to_unsigned}
 use Rattle.raster.specs.Grid.{reach_of}
-use borrow.Author.Rules.{rules}
 use Rattle.raster.proofs.grid.reach.Goals as goal
 
 pub returns : goal.returns

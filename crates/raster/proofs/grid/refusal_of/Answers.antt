@@ -1,5 +1,4 @@
 -- `raster::grid::refusal_of` meets its contract. Assumes nothing.
-use borrow.Author.Rules.{rules}
 use Rattle.raster.specs.Grid.{refusal_of}
 use Rattle.raster.proofs.grid.refusal_of.Goals as goal
 

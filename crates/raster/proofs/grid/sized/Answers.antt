@@ -2,7 +2,6 @@
 use Prim.Native.Nat.{◌+◌, ◌≤◌}
 use native.Mathlib.Omega.{arith}
 use Rattle.raster.proofs.GridLaws.{few-cells, sized-wide, sized-high, sized_many, sized-is}
-use borrow.Author.Rules.{rules}
 use Rattle.raster.proofs.grid.sized.Goals as goal
 
 pub overflow_mul-ny : goal.overflow_mul-ny

@@ -1,5 +1,4 @@
 -- `raster::grid::spans` meets its contract. Assumes nothing.
-use borrow.Author.Rules.{rules}
 use Rattle.raster.specs.Grid.{spans_of}
 use Rattle.raster.proofs.grid.spans.Goals as goal
 

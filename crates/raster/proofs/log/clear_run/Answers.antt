@@ -1,13 +1,11 @@
 -- `raster::log::clear_run` meets its contract. The invariant: the map, the log and the count are what the turns so far leave. Assumes nothing.
 use mathlib.Core.Path.{ap, ◌∙◌}
-use mathlib.Core.Logic.{⊎_elim}
-use Prim.Native.Nat.{ℕ, ◌-◌, ◌<◌}
+use Prim.Native.Nat.{ℕ, ◌<◌}
 use native.Mathlib.Omega.{arith}
 use lib.ListN.{length, set}
-use Rattle.loops.proofs.LoopLaws.{Going, going_none, going_more, going_end}
-use Rattle.raster.specs.Log.{st, clear_cell}
+use Rattle.loops.proofs.LoopLaws.{going_none, going_more, going_end}
+use Rattle.raster.specs.Log.{st}
 use Rattle.raster.proofs.LogLaws.{Kept, going_kept, room-left, cell-taken, cell-left, st_eq}
-use borrow.Author.Rules.{rules}
 use Rattle.raster.proofs.log.clear_run.Goals as goal
 use Rattle.raster.proofs.log.clear_run.Goals.{else-map-k-eq1, then-map-k-eq1}
 use Rattle.raster.proofs.log.clear_run.Goals.{At-loop-k, Then-map-k-eq1}

@@ -1,13 +1,6 @@
 -- `raster::log::clear_run` meets its contract. The invariant: the map, the log and the count are what the turns so far leave. Assumes nothing.
-use mathlib.Core.Path.{ap, ◌∙◌}
-use mathlib.Core.Logic.{⊎_elim}
-use Prim.Native.Nat.{ℕ, ◌-◌, ◌<◌}
-use native.Mathlib.Omega.{arith}
-use lib.ListN.{length, set}
-use Rattle.loops.proofs.LoopLaws.{Going, going_none, going_more, going_end}
+use Rattle.loops.proofs.LoopLaws.{Going}
 use Rattle.raster.specs.Log.{st, clear_cell}
-use Rattle.raster.proofs.LogLaws.{Kept, going_kept, room-left, cell-taken, cell-left, st_eq}
-use borrow.Author.Rules.{rules}
 use Rattle.raster.proofs.log.clear_run.Given as goal
 
 abbrev pub invariant-loop-k : goal.invariant-loop-k

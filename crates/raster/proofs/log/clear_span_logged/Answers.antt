@@ -1,7 +1,6 @@
 -- `raster::log::clear_span_logged` meets its contract. Assumes nothing.
 use native.Mathlib.Omega.{arith}
 use Rattle.raster.proofs.SweepLaws.{inside_cols, span_none, span_cols}
-use borrow.Author.Rules.{rules}
 use Rattle.raster.proofs.log.clear_span_logged.Goals as goal
 
 pub overflow_add-base : goal.overflow_add-base

@@ -1,12 +1,8 @@
 -- `raster::stock::count` meets its contract. The invariant: what is counted is what the cells so far hold. Assumes nothing.
-use mathlib.Core.Path.{refl, ◌∙◌}
-use mathlib.Core.Logic.{⊎_elim}
-use Prim.Native.Nat.{◌-◌, ◌≤◌, ◌<◌}
-use native.Mathlib.Omega.{arith}
+use Prim.Native.Nat.{◌≤◌}
 use mathlib.Core.Path.{◌≡◌}
 use lib.ListN.{length, take}
 use Rattle.loops.specs.Cells.{ones}
-use Rattle.raster.proofs.StockLaws.{count-one, count_none, count_most, count-all}
 use Rattle.raster.proofs.stock.count.Given as goal
 
 abbrev pub invariant-loop-k : goal.invariant-loop-k

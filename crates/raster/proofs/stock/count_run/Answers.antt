@@ -1,10 +1,8 @@
 -- `raster::stock::count_run` meets its contract. The invariant: the count is what the turns so far leave. Assumes nothing.
 use mathlib.Core.Path.{◌∙◌}
-use mathlib.Core.Logic.{⊎_elim}
-use Prim.Native.Nat.{◌-◌, ◌≤◌}
+use Prim.Native.Nat.{◌≤◌}
 use native.Mathlib.Omega.{arith}
-use Rattle.loops.proofs.LoopLaws.{Going, going_none, going_more, going_end}
-use Rattle.raster.specs.Stock.{tally}
+use Rattle.loops.proofs.LoopLaws.{going_none, going_more, going_end}
 use Rattle.raster.proofs.StockLaws.{run-most, tally-one, tally-none}
 use Rattle.raster.proofs.stock.count_run.Goals as goal
 use Rattle.raster.proofs.stock.count_run.Goals.{else-map-k-eq1, then-map-k-eq1}

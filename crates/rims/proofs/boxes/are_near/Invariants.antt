@@ -1,10 +1,6 @@
 -- `rims::boxes::are_near` meets its contract. The invariant: so it is of the cells so far. Assumes nothing.
-use Prim.Native.Nat.{◌-◌, ◌≤◌}
-use native.Mathlib.Omega.{arith}
-use borrow.Author.Tests.{not-false}
-use Rattle.loops.proofs.Cases.{never}
+use Prim.Native.Nat.{◌≤◌}
 use Rattle.rims.specs.Boxes.{EdgesTo}
-use Rattle.rims.proofs.BoxLaws.{edges_none, edges_more, edges-end}
 use Rattle.rims.proofs.boxes.are_near.Given as goal
 
 abbrev pub invariant-loop-i : goal.invariant-loop-i

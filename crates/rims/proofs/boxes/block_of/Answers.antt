@@ -1,13 +1,10 @@
 -- `rims::boxes::block_of` meets its contract. The invariant: the boxes of the entries so far lie in the columns from a to b and the rows from c to d. Assumes nothing.
 use mathlib.Core.Path.{refl}
-use Prim.Native.Nat.{◌-◌, ◌≤◌, zero-le}
+use Prim.Native.Nat.{zero-le}
 use native.Mathlib.Omega.{arith}
-use lib.ListN.{length}
 use borrow.Author.Tests.{ltb-true}
 use Rattle.loops.proofs.Cases.{both}
-use Rattle.rims.specs.Boxes.{InsideTo}
 use Rattle.rims.proofs.BlockLaws.{inside-none, inside_more, block_none, block-is}
-use borrow.Author.Rules.{rules}
 use Rattle.rims.proofs.boxes.block_of.Goals as goal
 
 pub loop-k-init : goal.loop-k-init

@@ -1,7 +1,6 @@
 -- `rims::boxes::entry_of` meets its contract. Assumes nothing.
 use native.Mathlib.Omega.{arith}
 use Rattle.rims.proofs.BoxLaws.{entry-is, entry-none}
-use borrow.Author.Rules.{rules}
 use Rattle.rims.proofs.boxes.entry_of.Goals as goal
 
 pub returns-then-are_near-2 : goal.returns-then-are_near-2

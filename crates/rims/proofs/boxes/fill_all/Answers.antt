@@ -2,7 +2,6 @@
 use native.Mathlib.Omega.{arith}
 use Rattle.rims.proofs.FirstLaws.{started-after}
 use Rattle.rims.proofs.BoxLaws.{rim-apart, second_rim, all_boxed}
-use borrow.Author.Rules.{rules}
 use Rattle.rims.proofs.boxes.fill_all.Goals as goal
 
 pub fill_boxes-requires : goal.fill_boxes-requires

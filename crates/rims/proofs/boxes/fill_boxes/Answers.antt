@@ -5,7 +5,6 @@ use lib.ListN.{length, length-set}
 use lib.Ieee.{binary64, of_bits}
 use Rattle.numbers.proofs.RootLaws.{no_nan_bits}
 use Rattle.rims.proofs.BoxLaws.{entries-numbers, rim-apart, boxed_short, head_apart, boxed_no, flag-number, then_blocks, boxed_yes, reach-some}
-use borrow.Author.Rules.{rules}
 use Rattle.rims.proofs.boxes.fill_boxes.Goals as goal
 use Rattle.rims.proofs.boxes.fill_boxes.Goals.{After-slice_known-then-is_tame-2-1}
 

@@ -1,12 +1,6 @@
 -- `rims::boxes::fill_entries` meets its contract. The invariant: the entries of the samples so far stand in the table, and nothing else has changed. Assumes nothing.
-use Prim.Native.Nat.{◌-◌, ◌+◌, ◌<◌}
-use native.Mathlib.Omega.{arith}
-use lib.ListN.{length}
-use Rattle.numbers.proofs.RootLaws.{no_nan_bits}
+use Prim.Native.Nat.{◌+◌}
 use Rattle.rims.specs.Boxes.{Apart, EntriesTo}
-use Rattle.rims.proofs.FirstLaws.{apart_none, apart-set}
-use Rattle.rims.proofs.BoxLaws.{entries_none, entries_next, entries-end}
-use borrow.Author.Rules.{rules}
 use Rattle.rims.proofs.boxes.fill_entries.Given as goal
 
 abbrev pub invariant-loop-k : goal.invariant-loop-k

@@ -1,6 +1,5 @@
 -- `rims::boxes::is_near` meets its contract. Assumes nothing.
 use Rattle.rims.proofs.BoxLaws.{edges-is}
-use borrow.Author.Rules.{rules}
 use Rattle.rims.proofs.boxes.is_near.Goals as goal
 
 pub returns : goal.returns

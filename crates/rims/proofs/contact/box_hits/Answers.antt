@@ -1,11 +1,7 @@
 -- `rims::contact::box_hits` meets its contract. The invariant: the hits are those of the blocks so far. Assumes nothing.
-use mathlib.Core.Path.{◌≡◌, ◌∙◌}
-use mathlib.Core.Logic.{⊎_elim}
-use Prim.Native.Nat.{◌+◌, ◌-◌, ◌*◌, ◌<◌, min, zero-le}
+use mathlib.Core.Path.{◌∙◌}
+use Prim.Native.Nat.{◌+◌, ◌*◌, min, zero-le}
 use native.Mathlib.Omega.{arith}
-use borrow.Author.Tests.{not-false}
-use Rattle.loops.specs.Loop.{loop}
-use Rattle.raster.specs.Contact.{hit_at}
 use Rattle.rims.proofs.HitLaws.{hits_few, no_blocks, counted, passed, all_blocks}
 use Rattle.rims.proofs.NearLaws.{block_on, block-bare}
 use Rattle.rims.proofs.contact.box_hits.Goals as goal

@@ -7,7 +7,6 @@ use borrow.Author.Tests.{eqb-true}
 use Rattle.loops.proofs.Cases.{never}
 use Rattle.rims.specs.Boxes.{block_at}
 use Rattle.rims.proofs.TileLaws.{tile_number, tile_below}
-use borrow.Author.Rules.{rules}
 use Rattle.rims.proofs.contact.is_bare.Goals as goal
 use Rattle.rims.proofs.contact.is_bare.Goals.{After-tiles_of, Then-x-gt0}
 

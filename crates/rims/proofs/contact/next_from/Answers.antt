@@ -1,5 +1,4 @@
 -- `rims::contact::next_from` meets its contract. Assumes nothing.
-use borrow.Author.Rules.{rules}
 use Rattle.rims.proofs.contact.next_from.Goals as goal
 
 pub returns-then-q-x : goal.returns-then-q-x

@@ -4,7 +4,6 @@ use Prim.Native.Nat.{◌-◌, ◌+◌}
 use native.Mathlib.Omega.{arith}
 use Rattle.spans.specs.Spans.{word}
 use Rattle.rims.proofs.NearLaws.{shifted}
-use borrow.Author.Rules.{rules}
 use Rattle.rims.proofs.contact.rim_hits.Goals as goal
 
 pub float_to_bits-t : goal.float_to_bits-t

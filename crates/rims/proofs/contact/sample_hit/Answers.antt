@@ -4,7 +4,6 @@ use Prim.Native.Nat.{◌+◌, ◌-◌, ◌*◌, ◌/◌, ◌<◌}
 use native.Mathlib.Omega.{arith}
 use Rattle.spans.specs.Spans.{word}
 use Rattle.rims.proofs.NearLaws.{rows_on, cell-inside, cell-stock}
-use borrow.Author.Rules.{rules}
 use Rattle.rims.proofs.contact.sample_hit.Goals as goal
 use Rattle.rims.proofs.contact.sample_hit.Goals.{After-next_from-y, Else-e-eq0}
 

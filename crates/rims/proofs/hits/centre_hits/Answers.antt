@@ -1,7 +1,6 @@
 -- `rims::hits::centre_hits` meets its contract. Assumes nothing.
 use mathlib.Core.Path.{ap, ◌∙◌}
 use native.Mathlib.Omega.{arith}
-use borrow.Author.Rules.{rules}
 use Rattle.raster.specs.Contact.{hits_of}
 use Rattle.rims.proofs.hits.centre_hits.Goals as goal
 

@@ -2,7 +2,6 @@
 use mathlib.Core.Path.{ap, ◌∙◌}
 use Rattle.raster.specs.Grid.{stock_at}
 use Rattle.raster.proofs.ContactLaws.{rim-point}
-use borrow.Author.Rules.{rules}
 use Rattle.rims.proofs.hits.is_hit.Goals as goal
 
 pub returns : goal.returns

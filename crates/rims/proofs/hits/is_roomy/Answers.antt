@@ -1,5 +1,4 @@
 -- `rims::hits::is_roomy` meets its contract. Assumes nothing.
-use borrow.Author.Rules.{rules}
 use Rattle.loops.proofs.Cases.{never}
 use Rattle.rims.proofs.OffsetLaws.{roomy-is}
 use Rattle.rims.proofs.hits.is_roomy.Goals as goal

@@ -3,7 +3,6 @@ use Prim.Native.Nat.{◌+◌, ◌-◌, ◌*◌, ◌<◌}
 use native.Mathlib.Omega.{arith}
 use Rattle.rims.specs.Offsets.{entry_at}
 use Rattle.rims.proofs.OffsetLaws.{told-inside, told-stock}
-use borrow.Author.Rules.{rules}
 use Rattle.rims.proofs.hits.sample_hit.Goals as goal
 use Rattle.rims.proofs.hits.sample_hit.Goals.{Start}
 

@@ -2,7 +2,6 @@
 use Prim.Native.Nat.{◌+◌, ◌*◌, ◌<◌, ◌^◌}
 use native.Mathlib.Omega.{arith}
 use Rattle.rims.proofs.OffsetLaws.{place-most, entry-few, entry-is, entry-none}
-use borrow.Author.Rules.{rules}
 use Rattle.rims.proofs.offsets.entry_of.Goals as goal
 use Rattle.rims.proofs.offsets.entry_of.Goals.{Then-is_fixed-2}
 

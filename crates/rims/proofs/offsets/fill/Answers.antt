@@ -1,8 +1,6 @@
 -- `rims::offsets::fill` meets its contract. Assumes nothing.
 use native.Mathlib.Omega.{arith}
-use borrow.Author.Tests.{not-false}
 use Rattle.rims.proofs.OffsetLaws.{rims-told, rims-off}
-use borrow.Author.Rules.{rules}
 use Rattle.rims.proofs.offsets.fill.Goals as goal
 
 pub are_told-requires : goal.are_told-requires

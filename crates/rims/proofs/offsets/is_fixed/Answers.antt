@@ -1,10 +1,7 @@
 -- `rims::offsets::is_fixed` meets its contract. The invariant: it is so of the cells before i. Assumes nothing.
 use mathlib.Core.Path.{refl}
-use Prim.Native.Nat.{◌-◌}
-use native.Mathlib.Omega.{arith}
-use borrow.Author.Rules.{rules}
 use Rattle.loops.proofs.Cases.{never}
-use Rattle.rims.proofs.OffsetLaws.{FixedTo, fixed_none, fixed_more, fixed_end, fixed_few}
+use Rattle.rims.proofs.OffsetLaws.{fixed_none, fixed_more, fixed_end, fixed_few}
 use Rattle.rims.proofs.offsets.is_fixed.Goals as goal
 
 pub returns-then-n-s : goal.returns-then-n-s

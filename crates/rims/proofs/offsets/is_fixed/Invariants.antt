@@ -1,10 +1,5 @@
 -- `rims::offsets::is_fixed` meets its contract. The invariant: it is so of the cells before i. Assumes nothing.
-use mathlib.Core.Path.{refl}
-use Prim.Native.Nat.{◌-◌}
-use native.Mathlib.Omega.{arith}
-use borrow.Author.Rules.{rules}
-use Rattle.loops.proofs.Cases.{never}
-use Rattle.rims.proofs.OffsetLaws.{FixedTo, fixed_none, fixed_more, fixed_end, fixed_few}
+use Rattle.rims.proofs.OffsetLaws.{FixedTo}
 use Rattle.rims.proofs.offsets.is_fixed.Given as goal
 
 abbrev pub invariant-loop-i : goal.invariant-loop-i

@@ -1,6 +1,5 @@
 -- `rims::offsets::middle_of` meets its contract. Assumes nothing.
 use Rattle.rims.specs.Offsets.{middle_of}
-use borrow.Author.Rules.{rules}
 use Rattle.rims.proofs.offsets.middle_of.Goals as goal
 
 pub returns : goal.returns

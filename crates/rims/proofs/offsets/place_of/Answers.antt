@@ -1,6 +1,5 @@
 -- `rims::offsets::place_of` meets its contract. Assumes nothing.
 use Rattle.rims.proofs.OffsetLaws.{place-yes, place-past, place_none}
-use borrow.Author.Rules.{rules}
 use Rattle.rims.proofs.offsets.place_of.Goals as goal
 
 pub returns-then-i-n : goal.returns-then-i-n

@@ -3,7 +3,6 @@ use mathlib.Core.Path.{ap}
 use Prim.Native.Nat.{ℕ, ◌+◌}
 use native.Mathlib.Omega.{arith}
 use Rattle.rims.specs.Offsets.{reach_of}
-use borrow.Author.Rules.{rules}
 use Rattle.rims.proofs.offsets.reach_of.Goals as goal
 
 pub returns : goal.returns

@@ -1,8 +1,5 @@
 -- `rims::sums::add_cells` meets its contract. The invariant: the cells so far are added. Assumes nothing.
-use mathlib.Core.Logic.{⊎_elim}
-use Prim.Native.Nat.{◌-◌, ◌≤◌}
 use native.Mathlib.Omega.{arith}
-use Rattle.rims.specs.Sums.{Added}
 use Rattle.rims.proofs.SumLaws.{added_none, added_more, added_end}
 use Rattle.rims.proofs.sums.add_cells.Goals as goal
 use Rattle.rims.proofs.sums.add_cells.Goals.{else-map-a-eq1, then-map-a-eq1}

@@ -4,7 +4,6 @@ use Prim.Native.Nat.{◌+◌, ◌-◌, ◌*◌, ◌≤◌}
 use native.Mathlib.Omega.{arith}
 use Rattle.rims.specs.Offsets.{entry_at}
 use Rattle.rims.proofs.SumLaws.{summed_few, summed_more, cells-inside}
-use borrow.Author.Rules.{rules}
 use Rattle.rims.proofs.sums.add_sample.Goals as goal
 use Rattle.rims.proofs.sums.add_sample.Goals.{Start}
 

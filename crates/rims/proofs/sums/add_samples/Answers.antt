@@ -1,8 +1,6 @@
 -- `rims::sums::add_samples` meets its contract. The invariant: the samples so far are summed up. Assumes nothing.
-use Prim.Native.Nat.{◌-◌, ◌≤◌}
 use native.Mathlib.Omega.{arith}
 use mathlib.Core.Path.{sym, ◌∙◌}
-use Rattle.rims.specs.Sums.{Summed}
 use Rattle.rims.proofs.SumLaws.{zeros-long, summed_none, summed_end}
 use Rattle.rims.proofs.sums.add_samples.Goals as goal
 

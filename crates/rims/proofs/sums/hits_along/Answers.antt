@@ -1,6 +1,5 @@
 -- `rims::sums::hits_along` meets its contract. Assumes nothing.
 use native.Mathlib.Omega.{arith}
-use borrow.Author.Rules.{rules}
 use Rattle.loops.proofs.Cases.{never}
 use Rattle.rims.proofs.SumLaws.{zeros-long}
 use Rattle.rims.proofs.sums.hits_along.Goals as goal

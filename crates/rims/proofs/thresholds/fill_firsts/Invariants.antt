@@ -1,11 +1,6 @@
 -- `rims::thresholds::fill_firsts` meets its contract. The invariant: the first numbers of the cells so far stand in the table, and nothing else has changed. Assumes nothing.
-use Prim.Native.Nat.{◌-◌, ◌+◌, ◌≤◌, ◌<◌}
-use native.Mathlib.Omega.{arith}
-use lib.ListN.{length}
-use Rattle.loops.proofs.Cases.{never}
-use Rattle.numbers.proofs.RootLaws.{no_nan_bits}
+use Prim.Native.Nat.{◌≤◌}
 use Rattle.rims.specs.Boxes.{Apart, FirstsTo}
-use Rattle.rims.proofs.FirstLaws.{apart_none, apart-set, firsts-none, firsts_more, firsts-end}
 use Rattle.rims.proofs.thresholds.fill_firsts.Given as goal
 
 abbrev pub invariant-loop-m : goal.invariant-loop-m

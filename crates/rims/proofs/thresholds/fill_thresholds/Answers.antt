@@ -5,7 +5,6 @@ use lib.ListN.{length-set}
 use lib.Ieee.{binary64, of_bits}
 use Rattle.numbers.proofs.RootLaws.{no_nan_bits}
 use Rattle.rims.proofs.FirstLaws.{apart_none, started-short, started-long, started-no, started-yes}
-use borrow.Author.Rules.{rules}
 use Rattle.rims.proofs.thresholds.fill_thresholds.Goals as goal
 
 pub returns-then-w-lt17152 : goal.returns-then-w-lt17152

@@ -1,5 +1,4 @@
 -- `rims::thresholds::first_from` meets its contract. The invariant: the bits are not before the first ones. Assumes nothing.
-use Prim.Native.Nat.{◌-◌, ◌≤◌}
 use native.Mathlib.Omega.{arith}
 use Rattle.rims.proofs.thresholds.first_from.Goals as goal
 

@@ -1,6 +1,5 @@
 -- `rims::thresholds::first_from` meets its contract. The invariant: the bits are not before the first ones. Assumes nothing.
-use Prim.Native.Nat.{◌-◌, ◌≤◌}
-use native.Mathlib.Omega.{arith}
+use Prim.Native.Nat.{◌≤◌}
 use Rattle.rims.proofs.thresholds.first_from.Given as goal
 
 abbrev pub invariant-loop-k : goal.invariant-loop-k

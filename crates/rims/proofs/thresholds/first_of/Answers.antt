@@ -4,7 +4,6 @@ use mathlib.Core.Bool.{Bool, not}
 use native.Mathlib.Omega.{arith}
 use lib.Dec.{T}
 use Rattle.floats.proofs.OrderLaws.{lt_numbers}
-use borrow.Author.Rules.{rules}
 use Rattle.rims.proofs.thresholds.first_of.Goals as goal
 
 pub float_to_bits-b : goal.float_to_bits-b

@@ -3,7 +3,6 @@ use native.Mathlib.Omega.{arith}
 use Rattle.loops.proofs.Cases.{both}
 use Rattle.numbers.proofs.RootLaws.{no_nan_bits}
 use Rattle.rims.proofs.FirstLaws.{first-is}
-use borrow.Author.Rules.{rules}
 use Rattle.rims.proofs.thresholds.is_first.Goals as goal
 
 pub float_from_bits-before : goal.float_from_bits-before

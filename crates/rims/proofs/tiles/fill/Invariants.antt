@@ -1,8 +1,6 @@
 -- `rims::tiles::fill` meets its contract. The invariant: the tiles of the stock in the rows so far are marked. Assumes nothing.
-use Prim.Native.Nat.{◌-◌, ◌*◌}
-use native.Mathlib.Omega.{arith}
+use Prim.Native.Nat.{◌*◌}
 use Rattle.rims.specs.Tiles.{Keeps, StockMarked}
-use Rattle.rims.proofs.TileLaws.{stock-none, stock_more, tiled_is}
 use Rattle.rims.proofs.tiles.fill.Given as goal
 
 abbrev pub invariant-loop-y : goal.invariant-loop-y

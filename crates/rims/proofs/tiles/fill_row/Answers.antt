@@ -4,7 +4,6 @@ use Prim.Native.Nat.{ℕ, ◌+◌, ◌*◌, ◌≤◌}
 use lib.ListN.{length}
 use native.Mathlib.Omega.{arith}
 use Rattle.rims.proofs.TileLaws.{few_tiles, tiles_row, stock-row}
-use borrow.Author.Rules.{rules}
 use Rattle.rims.proofs.tiles.fill_row.Goals as goal
 
 pub overflow_mul-y : goal.overflow_mul-y

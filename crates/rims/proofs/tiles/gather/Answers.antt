@@ -1,9 +1,6 @@
 -- `rims::tiles::gather` meets its contract. The invariant: the columns so far are marked, and what was marked is. Assumes nothing.
 use mathlib.Core.Path.{◌∙◌}
-use mathlib.Core.Logic.{⊎_elim}
-use Prim.Native.Nat.{◌-◌}
 use native.Mathlib.Omega.{arith}
-use Rattle.rims.specs.Tiles.{Keeps, Gathered}
 use Rattle.rims.proofs.TileLaws.{gathered_none, gathered_more, gathered_end}
 use Rattle.rims.proofs.tiles.gather.Goals as goal
 use Rattle.rims.proofs.tiles.gather.Goals.{else-map-a-eq1, then-map-a-eq1}

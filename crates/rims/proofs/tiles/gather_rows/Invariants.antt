@@ -1,9 +1,5 @@
 -- `rims::tiles::gather_rows` meets its contract. The invariant: the columns of the rows so far are marked, and what was marked is. Assumes nothing.
-use Prim.Native.Nat.{◌-◌, ◌<◌}
-use native.Mathlib.Omega.{arith}
-use Rattle.loops.proofs.CellLaws.{row_below}
 use Rattle.rims.specs.Tiles.{Keeps, RowsGathered}
-use Rattle.rims.proofs.TileLaws.{rows_none, rows_more, rows_end}
 use Rattle.rims.proofs.tiles.gather_rows.Given as goal
 
 abbrev pub invariant-loop-j : goal.invariant-loop-j

@@ -3,7 +3,6 @@ use native.Mathlib.Omega.{arith}
 use Prim.Native.Nat.{◌*◌, ◌≤◌}
 use lib.ListN.{length-set}
 use Rattle.rims.proofs.TileLaws.{mark-low, mark-is}
-use borrow.Author.Rules.{rules}
 use Rattle.rims.proofs.tiles.mark.Goals as goal
 use Rattle.rims.proofs.tiles.mark.Goals.{After-end_with-v}
 

@@ -1,7 +1,6 @@
 -- `rims::tiles::tiles_of` meets its contract. Assumes nothing.
 use mathlib.Core.Path.{refl}
 use Rattle.rims.specs.Tiles.{tiles_of}
-use borrow.Author.Rules.{rules}
 use Rattle.rims.proofs.tiles.tiles_of.Goals as goal
 
 pub returns : goal.returns

@@ -1,5 +1,4 @@
 -- `setup::Setup::new` meets its contract. Assumes nothing.
-use borrow.Author.Rules.{rules}
 use Rattle.setup.specs.Made.{setup_of}
 use Rattle.setup.proofs.Setup.new.Goals as goal
 

@@ -1,9 +1,8 @@
 -- `setup::fill::fill_singles` meets its contract. Assumes nothing.
-use mathlib.Core.Path.{◌≡◌, ap, ◌∙◌}
-use Prim.Native.Nat.{◌-◌, ◌≤◌}
+use mathlib.Core.Path.{ap, ◌∙◌}
 use native.Mathlib.Omega.{arith}
 use lib.ListN.{length, set}
-use Rattle.loops.proofs.FillLaws.{filled, filled_none, filled_more, filled-length, filled-end}
+use Rattle.loops.proofs.FillLaws.{filled_none, filled_more, filled-length, filled-end}
 use Rattle.setup.proofs.fill.fill_singles.Goals as goal
 
 pub loop-k-init : goal.loop-k-init

@@ -1,9 +1,8 @@
 -- `setup::fill::fill_singles` meets its contract. Assumes nothing.
-use mathlib.Core.Path.{◌≡◌, ap, ◌∙◌}
-use Prim.Native.Nat.{◌-◌, ◌≤◌}
-use native.Mathlib.Omega.{arith}
-use lib.ListN.{length, set}
-use Rattle.loops.proofs.FillLaws.{filled, filled_none, filled_more, filled-length, filled-end}
+use mathlib.Core.Path.{◌≡◌}
+use Prim.Native.Nat.{◌≤◌}
+use lib.ListN.{length}
+use Rattle.loops.proofs.FillLaws.{filled}
 use Rattle.setup.proofs.fill.fill_singles.Given as goal
 
 abbrev pub invariant-loop-k : goal.invariant-loop-k

@@ -1,6 +1,5 @@
 -- `setup::limits::guard_of` meets its contract. Assumes nothing.
 use Rattle.setup.specs.Limits.{guard_of}
-use borrow.Author.Rules.{rules}
 use Rattle.setup.proofs.limits.guard_of.Goals as goal
 
 pub returns : goal.returns

@@ -1,6 +1,5 @@
 -- `setup::limits::samples_of` meets its contract. Assumes nothing.
 use Rattle.setup.proofs.LimitLaws.{samples-least, samples-most, samples-same}
-use borrow.Author.Rules.{rules}
 use Rattle.setup.proofs.limits.samples_of.Goals as goal
 
 pub returns-then-n-lt64 : goal.returns-then-n-lt64

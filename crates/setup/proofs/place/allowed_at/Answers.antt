@@ -1,6 +1,5 @@
 -- `setup::place::allowed_at` meets its contract. Assumes nothing.
 use Rattle.setup.proofs.PlaceLaws.{allowed-far, allowed-near, allowed-clear}
-use borrow.Author.Rules.{rules}
 use Rattle.setup.proofs.place.allowed_at.Goals as goal
 
 pub returns-then-any_within : goal.returns-then-any_within

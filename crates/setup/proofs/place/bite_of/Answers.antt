@@ -1,6 +1,5 @@
 -- `setup::place::bite_of` meets its contract. Assumes nothing.
 use Rattle.setup.proofs.PlaceLaws.{bite_is}
-use borrow.Author.Rules.{rules}
 use Rattle.setup.proofs.place.bite_of.Goals as goal
 
 pub returns : goal.returns

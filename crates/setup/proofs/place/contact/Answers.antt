@@ -5,7 +5,6 @@ use native.Mathlib.Omega.{arith}
 use Rattle.raster.proofs.ContactLaws.{rim-same, contact-is}
 use Rattle.rims.specs.Boxes.{Boxed}
 use Rattle.setup.specs.Place.{contact_at}
-use borrow.Author.Rules.{rules}
 use Rattle.setup.proofs.place.contact.Goals as goal
 
 pub rim_hits-requires : goal.rim_hits-requires

@@ -3,7 +3,6 @@ use mathlib.Core.Path.{ap}
 use Prim.Native.Nat.{ℕ}
 use lib.Dec.{eqb}
 use Rattle.setup.specs.Place.{free_at}
-use borrow.Author.Rules.{rules}
 use Rattle.setup.proofs.place.free.Goals as goal
 
 pub returns : goal.returns

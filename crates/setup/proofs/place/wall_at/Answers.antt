@@ -5,7 +5,6 @@ use Rattle.raster.specs.Grid.{numbered}
 use Rattle.raster.specs.declared.grid.CellNo.{CellNo}
 use Rattle.raster.proofs.GridLaws.{on-grid-at, number-below}
 use Rattle.setup.proofs.PlaceLaws.{wall-none, wall-some}
-use borrow.Author.Rules.{rules}
 use Rattle.setup.proofs.place.wall_at.Goals as goal
 
 pub cell_of-f-requires : goal.cell_of-f-requires

@@ -1,7 +1,6 @@
 -- `setup::tables::fill` meets its contract. Assumes nothing.
 use native.Mathlib.Omega.{arith}
 use Rattle.setup.proofs.TableLaws.{tables_are}
-use borrow.Author.Rules.{rules}
 use Rattle.setup.proofs.tables.fill.Goals as goal
 
 pub returns : goal.returns

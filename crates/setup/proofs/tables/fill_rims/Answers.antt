@@ -3,7 +3,6 @@ use Prim.Native.Nat.{◌≤◌}
 use native.Mathlib.Omega.{arith}
 use Rattle.raster.specs.Contact.{samples_of}
 use Rattle.setup.proofs.TableLaws.{rim-tables}
-use borrow.Author.Rules.{rules}
 use Rattle.setup.proofs.tables.fill_rims.Goals as goal
 use Rattle.setup.proofs.tables.fill_rims.Goals.{After-samples_of-n}
 

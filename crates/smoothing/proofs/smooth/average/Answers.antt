@@ -1,11 +1,9 @@
 -- `smoothing::smooth::average` meets its contract. Assumes nothing.
 use mathlib.Core.Path.{◌≡◌, ap, ◌∙◌}
-use Prim.Native.Nat.{◌-◌}
 use native.Mathlib.Omega.{arith}
 use lib.ListN.{length}
-use borrow.Author.Rules.{rules}
-use Rattle.loops.proofs.LoopLaws.{Going, going_none, going_more, going_end}
-use Rattle.smoothing.specs.Smooth.{Averaging, avg, average_put}
+use Rattle.loops.proofs.LoopLaws.{going_none, going_more, going_end}
+use Rattle.smoothing.specs.Smooth.{Averaging}
 use Rattle.smoothing.proofs.SmoothLaws.{average_run, average_is}
 use Rattle.smoothing.proofs.smooth.average.Goals as goal
 use Rattle.smoothing.proofs.smooth.average.Goals.{At-loop-k}

@@ -1,6 +1,5 @@
 -- `smoothing::smooth::average_at` meets its contract. Assumes nothing.
 use Rattle.smoothing.proofs.SmoothLaws.{average_held, average_moved}
-use borrow.Author.Rules.{rules}
 use Rattle.smoothing.proofs.smooth.average_at.Goals as goal
 
 pub returns-then-held : goal.returns-then-held

@@ -1,6 +1,5 @@
 -- `smoothing::smooth::held` meets its contract. Assumes nothing.
 use Rattle.smoothing.specs.Smooth.{held_at}
-use borrow.Author.Rules.{rules}
 use Rattle.smoothing.proofs.smooth.held.Goals as goal
 
 pub returns-then-closed : goal.returns-then-closed

@@ -1,12 +1,11 @@
 -- `smoothing::smooth::keep` meets its contract. Assumes nothing.
 use mathlib.Core.Path.{sym, subst}
 use mathlib.Core.List.{[], ◌∷◌}
-use Prim.Native.Nat.{◌-◌}
 use native.Mathlib.Omega.{arith}
 use Rattle.loops.specs.Loop.{loop}
 use Rattle.geom.specs.Points.{points}
-use Rattle.loops.proofs.LoopLaws.{Going, going_none, going_more, going_end}
-use Rattle.smoothing.specs.Smooth.{nth, keep_at, Keeping, kpt, keep_put}
+use Rattle.loops.proofs.LoopLaws.{going_none, going_more, going_end}
+use Rattle.smoothing.specs.Smooth.{nth, keep_at, Keeping, kpt}
 use Rattle.smoothing.proofs.SmoothLaws.{KeepStep, keep_run, keep-is}
 use Rattle.smoothing.proofs.smooth.keep.Goals as goal
 use Rattle.smoothing.proofs.smooth.keep.Goals.{At-loop-k}

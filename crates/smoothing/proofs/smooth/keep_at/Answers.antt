@@ -1,6 +1,5 @@
 use Rattle.geom.proofs.SegmentLaws.{point-square}
 use Rattle.smoothing.proofs.SmoothLaws.{keep-far, keep-near}
-use borrow.Author.Rules.{rules}
 use Rattle.smoothing.proofs.smooth.keep_at.Goals as goal
 
 pub root_reaches-requires : goal.root_reaches-requires

@@ -1,6 +1,5 @@
 -- `smoothing::smooth::mean` meets its contract. Assumes nothing.
 use Rattle.smoothing.specs.Smooth.{mean_of}
-use borrow.Author.Rules.{rules}
 use Rattle.smoothing.proofs.smooth.mean.Goals as goal
 
 pub returns : goal.returns

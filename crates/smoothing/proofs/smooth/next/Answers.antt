@@ -1,7 +1,6 @@
 -- `smoothing::smooth::next` meets its contract. Assumes nothing.
 use borrow.Author.Tests.{eq-eqb, ne_eqb}
 use Rattle.smoothing.specs.Smooth.{next_of}
-use borrow.Author.Rules.{rules}
 use Rattle.smoothing.proofs.smooth.next.Goals as goal
 
 pub returns-then-k-n : goal.returns-then-k-n

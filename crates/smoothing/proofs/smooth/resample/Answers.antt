@@ -1,7 +1,6 @@
 -- `smoothing::smooth::resample` meets its contract. Assumes nothing.
 use native.Mathlib.Omega.{arith}
 use Rattle.smoothing.proofs.SmoothLaws.{kept-some, resample_closed, resample_same, resample_room, resample_more}
-use borrow.Author.Rules.{rules}
 use Rattle.smoothing.proofs.smooth.resample.Goals as goal
 
 pub returns-then-closed : goal.returns-then-closed

@@ -1,11 +1,7 @@
 -- `smoothing::smooth::smooth` meets its contract. Assumes nothing.
-use mathlib.Core.Path.{◌≡◌, refl, ◌∙◌}
-use Prim.Native.Nat.{◌-◌}
+use mathlib.Core.Path.{refl, ◌∙◌}
 use native.Mathlib.Omega.{arith}
-use lib.ListN.{length}
-use Rattle.loops.proofs.LoopLaws.{Going, going_none, going_more, going_end}
-use Rattle.geom.specs.Points.{points}
-use Rattle.smoothing.specs.Smooth.{averaged}
+use Rattle.loops.proofs.LoopLaws.{going_none, going_more, going_end}
 use Rattle.smoothing.proofs.SmoothLaws.{smooth_few, smooth_is}
 use Rattle.smoothing.proofs.smooth.smooth.Goals as goal
 

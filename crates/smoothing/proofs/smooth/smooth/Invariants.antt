@@ -1,12 +1,9 @@
 -- `smoothing::smooth::smooth` meets its contract. Assumes nothing.
-use mathlib.Core.Path.{◌≡◌, refl, ◌∙◌}
-use Prim.Native.Nat.{◌-◌}
-use native.Mathlib.Omega.{arith}
+use mathlib.Core.Path.{◌≡◌}
 use lib.ListN.{length}
-use Rattle.loops.proofs.LoopLaws.{Going, going_none, going_more, going_end}
+use Rattle.loops.proofs.LoopLaws.{Going}
 use Rattle.geom.specs.Points.{points}
 use Rattle.smoothing.specs.Smooth.{averaged}
-use Rattle.smoothing.proofs.SmoothLaws.{smooth_few, smooth_is}
 use Rattle.smoothing.proofs.smooth.smooth.Given as goal
 
 abbrev pub invariant-loop-t : goal.invariant-loop-t

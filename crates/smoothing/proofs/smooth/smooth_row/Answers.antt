@@ -6,7 +6,6 @@ use lib.ListN.{length}
 use Rattle.pieces.specs.Piece.{put_row, cut_to, end_of}
 use Rattle.pieces.specs.declared.row.Row.{Row}
 use Rattle.smoothing.proofs.RowLaws.{read-smoothed}
-use borrow.Author.Rules.{rules}
 use Rattle.smoothing.proofs.smooth.smooth_row.Goals as goal
 
 pub slice_bounds-smooth-end : goal.slice_bounds-smooth-end

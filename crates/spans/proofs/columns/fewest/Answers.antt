@@ -1,9 +1,5 @@
 -- `spans::columns::fewest` meets its contract. The invariant: the bounds are those of the columns so far. Assumes nothing.
-use mathlib.Core.Path.{◌≡◌}
-use mathlib.Core.Bool.{true}
-use Prim.Native.Nat.{◌-◌}
 use native.Mathlib.Omega.{arith}
-use Rattle.spans.specs.Ends.{Least}
 use Rattle.spans.proofs.ColumnLaws.{short-is, least-none, least_more, least-is, least-end}
 use Rattle.spans.proofs.columns.fewest.Goals as goal
 

@@ -1,6 +1,5 @@
 -- `spans::columns::inner_of` meets its contract. Assumes nothing.
 use Rattle.spans.proofs.ColumnLaws.{inner_of, inner-none}
-use borrow.Author.Rules.{rules}
 use Rattle.spans.proofs.columns.inner_of.Goals as goal
 
 pub returns-then-b : goal.returns-then-b

@@ -1,9 +1,5 @@
 -- `spans::columns::most` meets its contract. The invariant: the bounds are those of the columns so far. Assumes nothing.
-use mathlib.Core.Path.{◌≡◌}
-use mathlib.Core.Bool.{true}
-use Prim.Native.Nat.{◌-◌}
 use native.Mathlib.Omega.{arith}
-use Rattle.spans.specs.Ends.{Most}
 use Rattle.spans.proofs.ColumnLaws.{short-is, most-none, most_more, most-is, most-end}
 use Rattle.spans.proofs.columns.most.Goals as goal
 

@@ -4,7 +4,6 @@ use native.Mathlib.Omega.{arith}
 use Rattle.loops.proofs.Cases.{never}
 use Rattle.spans.specs.Ends.{Short}
 use Rattle.spans.proofs.ColumnLaws.{narrower_is}
-use borrow.Author.Rules.{rules}
 use Rattle.spans.proofs.columns.narrowed.Goals as goal
 
 pub returns-in_default : goal.returns-in_default

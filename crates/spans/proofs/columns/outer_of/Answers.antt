@@ -1,6 +1,5 @@
 -- `spans::columns::outer_of` meets its contract. Assumes nothing.
 use Rattle.spans.proofs.ColumnLaws.{outer_of, outer_below}
-use borrow.Author.Rules.{rules}
 use Rattle.spans.proofs.columns.outer_of.Goals as goal
 
 pub returns-then-h2 : goal.returns-then-h2

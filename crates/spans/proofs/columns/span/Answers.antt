@@ -1,6 +1,5 @@
 -- `spans::columns::span` meets its contract. Assumes nothing.
 use Rattle.spans.specs.Ends.{span_of}
-use borrow.Author.Rules.{rules}
 use Rattle.spans.proofs.columns.span.Goals as goal
 
 pub returns : goal.returns

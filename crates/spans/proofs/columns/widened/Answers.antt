@@ -3,7 +3,6 @@ use mathlib.Core.Path.{subst}
 use native.Mathlib.Omega.{arith}
 use Rattle.spans.specs.Ends.{Short}
 use Rattle.spans.proofs.ColumnLaws.{wider-none, wider-is}
-use borrow.Author.Rules.{rules}
 use Rattle.spans.proofs.columns.widened.Goals as goal
 
 pub returns-in_default : goal.returns-in_default

@@ -1,7 +1,6 @@
 -- `spans::crescent::clear_crescent` meets its contract. Assumes nothing.
 use native.Mathlib.Omega.{arith}
 use Rattle.spans.proofs.IdleLaws.{placed_on, after_is}
-use borrow.Author.Rules.{rules}
 use Rattle.spans.proofs.crescent.clear_crescent.Goals as goal
 
 pub clear_rows-requires : goal.clear_rows-requires

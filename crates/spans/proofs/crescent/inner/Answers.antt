@@ -1,7 +1,6 @@
 -- `spans::crescent::inner` meets its contract. Assumes nothing.
 use Prim.Native.Nat.{◌+◌, ◌-◌, ◌*◌, ◌≤◌}
 use Rattle.spans.proofs.IdleLaws.{in_reach, inner-read, inner-is, inner-none}
-use borrow.Author.Rules.{rules}
 use Rattle.spans.proofs.crescent.inner.Goals as goal
 use Rattle.spans.proofs.crescent.inner.Goals.{Else-k-j}
 

@@ -3,7 +3,6 @@ use mathlib.Core.Path.{refl}
 use native.Mathlib.Omega.{arith}
 use Rattle.loops.proofs.CellLaws.{row_below}
 use Rattle.spans.proofs.IdleLaws.{idle-is}
-use borrow.Author.Rules.{rules}
 use Rattle.spans.proofs.crescent.is_idle.Goals as goal
 
 pub overflow_mul-y : goal.overflow_mul-y

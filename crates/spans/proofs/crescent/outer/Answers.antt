@@ -1,7 +1,6 @@
 -- `spans::crescent::outer` meets its contract. Assumes nothing.
 use Prim.Native.Nat.{◌+◌, ◌-◌, ◌*◌, ◌≤◌}
 use Rattle.spans.proofs.IdleLaws.{in_reach, outer-read, outer-is, outer-all}
-use borrow.Author.Rules.{rules}
 use Rattle.spans.proofs.crescent.outer.Goals as goal
 use Rattle.spans.proofs.crescent.outer.Goals.{Else-k-j}
 

@@ -1,6 +1,5 @@
 -- `spans::crescent::pass_row` meets its contract. Assumes nothing.
 use mathlib.Core.Path.{sym}
-use borrow.Author.Rules.{rules}
 use Rattle.spans.proofs.crescent.pass_row.Goals as goal
 
 pub returns-then-is_idle : goal.returns-then-is_idle

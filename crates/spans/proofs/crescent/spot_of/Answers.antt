@@ -2,7 +2,6 @@
 use mathlib.Core.Path.{refl, sym, ◌∙◌}
 use native.Mathlib.Omega.{arith}
 use Rattle.raster.proofs.GridLaws.{on-grid-at}
-use borrow.Author.Rules.{rules}
 use Rattle.spans.proofs.crescent.spot_of.Goals as goal
 
 pub overflow_sub-g : goal.overflow_sub-g

@@ -1,9 +1,6 @@
 -- `spans::edges::are_edged` meets its contract. The invariant: so it is of each cell so far. Assumes nothing.
-use Prim.Native.Nat.{◌-◌}
 use native.Mathlib.Omega.{arith}
-use borrow.Author.Tests.{not-false}
 use Rattle.loops.proofs.Cases.{never}
-use Rattle.spans.specs.Ends.{AllEdged}
 use Rattle.spans.proofs.EdgeLaws.{edged_none, edged_more, edged_end}
 use Rattle.spans.proofs.edges.are_edged.Goals as goal
 

@@ -1,6 +1,5 @@
 -- `spans::edges::below` meets its contract. Assumes nothing.
 use Rattle.spans.specs.Ends.{below_of}
-use borrow.Author.Rules.{rules}
 use Rattle.spans.proofs.edges.below.Goals as goal
 
 pub returns : goal.returns

@@ -1,6 +1,5 @@
 -- `spans::edges::beyond` meets its contract. Assumes nothing.
 use Rattle.spans.specs.Ends.{beyond_of}
-use borrow.Author.Rules.{rules}
 use Rattle.spans.proofs.edges.beyond.Goals as goal
 
 pub returns : goal.returns

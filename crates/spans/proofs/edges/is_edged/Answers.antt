@@ -2,7 +2,6 @@
 use mathlib.Core.Path.{sym, ◌∙◌}
 use Rattle.loops.proofs.Cases.{both}
 use Rattle.spans.proofs.EdgeLaws.{edged_is}
-use borrow.Author.Rules.{rules}
 use Rattle.spans.proofs.edges.is_edged.Goals as goal
 
 pub returns : goal.returns

@@ -1,7 +1,6 @@
 -- `spans::edges::is_tame` meets its contract. Assumes nothing.
 use mathlib.Core.Path.{sym, ◌∙◌}
 use Rattle.loops.proofs.Cases.{both, never}
-use borrow.Author.Rules.{rules}
 use Rattle.spans.proofs.edges.is_tame.Goals as goal
 
 pub returns-then-are_edged : goal.returns-then-are_edged

@@ -5,7 +5,6 @@ use lib.Ieee.{binary64, sub}
 use Rattle.numbers.specs.Order.{is_finite}
 use Rattle.loops.proofs.Cases.{both, never}
 use Rattle.spans.proofs.HeightLaws.{high_is}
-use borrow.Author.Rules.{rules}
 use Rattle.spans.proofs.heights.height.Goals as goal
 use Rattle.spans.proofs.heights.height.Goals.{Then-is_finite}
 

@@ -1,6 +1,5 @@
 -- `spans::heights::joined` meets its contract. Assumes nothing.
 use Rattle.spans.specs.Ends.{joined_of}
-use borrow.Author.Rules.{rules}
 use Rattle.spans.proofs.heights.joined.Goals as goal
 
 pub returns : goal.returns

@@ -5,7 +5,6 @@ use Rattle.loops.proofs.CellLaws.{row_below}
 use Rattle.raster.proofs.RowLaws.{BothIn, chord_in, less_in, in_map}
 use Rattle.raster.proofs.SweepLaws.{crescent-row-is}
 use Rattle.raster.proofs.LogLaws.{ready-kept, span_kept, le_same}
-use borrow.Author.Rules.{rules}
 use Rattle.spans.proofs.runs.clear_row.Goals as goal
 use Rattle.spans.proofs.runs.clear_row.Goals.{After-crescent_row-p}
 

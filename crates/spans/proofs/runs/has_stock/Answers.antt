@@ -1,11 +1,7 @@
 -- `spans::runs::has_stock` meets its contract. The invariant: none of the cells so far is stock. Assumes nothing.
-use Prim.Native.Nat.{◌-◌}
-use mathlib.Core.Bool.{false}
 use native.Mathlib.Omega.{arith}
 use borrow.Author.Tests.{eq-eqb, ne_eqb}
-use Rattle.loops.specs.Loop.{or_at}
-use Rattle.loops.proofs.LoopLaws.{Going, going_none, any-on, any_none, any_out}
-use Rattle.spans.specs.Ends.{is_stock}
+use Rattle.loops.proofs.LoopLaws.{going_none, any-on, any_none, any_out}
 use Rattle.spans.proofs.runs.has_stock.Goals as goal
 
 pub loop-k-init : goal.loop-k-init

@@ -3,7 +3,6 @@ use mathlib.Core.Path.{sym, ◌∙◌}
 use borrow.Author.Tests.{not-true}
 use Rattle.loops.proofs.Cases.{never}
 use Rattle.spans.proofs.IdleLaws.{bare-is}
-use borrow.Author.Rules.{rules}
 use Rattle.spans.proofs.runs.is_bare.Goals as goal
 
 pub returns-then-has_stock : goal.returns-then-has_stock

@@ -3,7 +3,6 @@ use native.Mathlib.Omega.{arith}
 use Rattle.numbers.proofs.RootLaws.{no_nan_bits}
 use Rattle.raster.proofs.LogLaws.{le_same}
 use Rattle.spans.proofs.TableLaws.{head_long, spanning_some, spanning_none}
-use borrow.Author.Rules.{rules}
 use Rattle.spans.proofs.table.fill.Goals as goal
 
 pub float_from_bits-t : goal.float_from_bits-t

@@ -3,7 +3,6 @@ use mathlib.Core.Path.{◌≡◌}
 use mathlib.Core.Bool.{true}
 use Rattle.loops.proofs.Cases.{never}
 use Rattle.spans.proofs.TableLaws.{all_four, row_told}
-use borrow.Author.Rules.{rules}
 use Rattle.spans.proofs.table.row.Goals as goal
 use Rattle.spans.proofs.table.row.Goals.{Then-h-o}
 

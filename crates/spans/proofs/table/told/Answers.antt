@@ -2,7 +2,6 @@
 use mathlib.Core.Path.{refl, sym, ◌∙◌}
 use native.Mathlib.Omega.{arith}
 use Rattle.loops.proofs.Cases.{both, never}
-use borrow.Author.Rules.{rules}
 use Rattle.spans.proofs.table.told.Goals as goal
 
 pub rows-requires : goal.rows-requires

@@ -1,6 +1,5 @@
 -- `tracing::curves::smooth` meets its contract. Assumes nothing.
 use Rattle.tracing.proofs.CurvesLaws.{smooth_laid, smoothed-lies, smoothed-rows, smoothed-points}
-use borrow.Author.Rules.{rules}
 use Rattle.tracing.proofs.curves.smooth.Goals as goal
 
 pub smooth_all-requires : goal.smooth_all-requires

@@ -1,6 +1,5 @@
 -- `tracing::curves::trace` meets its contract. Assumes nothing.
 use Rattle.tracing.proofs.CurvesLaws.{laying, beside}
-use borrow.Author.Rules.{rules}
 use Rattle.tracing.proofs.curves.trace.Goals as goal
 
 pub returns : goal.returns

@@ -1,6 +1,5 @@
 -- `tracing::nudge::around` meets its contract. Assumes nothing.
 use Rattle.tracing.specs.Ring.{around_of}
-use borrow.Author.Rules.{rules}
 use Rattle.tracing.proofs.nudge.around.Goals as goal
 
 pub returns : goal.returns

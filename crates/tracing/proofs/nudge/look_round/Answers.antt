@@ -1,13 +1,6 @@
 -- `tracing::nudge::look_round` meets its contract. Assumes nothing.
-use Prim.Native.Nat.{◌-◌}
-use native.Mathlib.Omega.{arith}
-use Rattle.loops.specs.Loop.{on, turn}
-use Rattle.loops.proofs.LoopLaws.{Going, going_none}
-use Rattle.setup.specs.Place.{allowed_at}
-use Rattle.tracing.specs.Ring.{look_at}
-use Rattle.tracing.specs.declared.nudge.Nudge.TheVariants.{Still}
+use Rattle.loops.proofs.LoopLaws.{going_none}
 use Rattle.tracing.proofs.NudgeLaws.{looked-at, looked-on, looked-none}
-use borrow.Author.Rules.{rules}
 use Rattle.tracing.proofs.nudge.look_round.Goals as goal
 
 pub loop-k-init : goal.loop-k-init

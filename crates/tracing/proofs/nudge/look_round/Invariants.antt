@@ -1,13 +1,9 @@
 -- `tracing::nudge::look_round` meets its contract. Assumes nothing.
-use Prim.Native.Nat.{◌-◌}
-use native.Mathlib.Omega.{arith}
 use Rattle.loops.specs.Loop.{on, turn}
-use Rattle.loops.proofs.LoopLaws.{Going, going_none}
+use Rattle.loops.proofs.LoopLaws.{Going}
 use Rattle.setup.specs.Place.{allowed_at}
 use Rattle.tracing.specs.Ring.{look_at}
 use Rattle.tracing.specs.declared.nudge.Nudge.TheVariants.{Still}
-use Rattle.tracing.proofs.NudgeLaws.{looked-at, looked-on, looked-none}
-use borrow.Author.Rules.{rules}
 use Rattle.tracing.proofs.nudge.look_round.Given as goal
 
 abbrev pub invariant-loop-k : goal.invariant-loop-k

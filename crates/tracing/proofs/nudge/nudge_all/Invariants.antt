@@ -1,7 +1,6 @@
 -- `tracing::nudge::nudge_all` meets its contract. Assumes nothing.
-use Prim.Native.Nat.{◌-◌, ◌≤◌}
-use native.Mathlib.Omega.{arith}
-use Rattle.tracing.proofs.RingLaws.{Nudging, nudging_none, nudging_asks, nudging_more, nudging_end}
+use Prim.Native.Nat.{◌≤◌}
+use Rattle.tracing.proofs.RingLaws.{Nudging}
 use Rattle.tracing.proofs.nudge.nudge_all.Given as goal
 
 abbrev pub invariant-loop-k : goal.invariant-loop-k

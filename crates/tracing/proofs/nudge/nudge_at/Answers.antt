@@ -1,6 +1,5 @@
 -- `tracing::nudge::nudge_at` meets its contract. Assumes nothing.
 use Rattle.tracing.proofs.RingLaws.{nudged_there, nudged_only}
-use borrow.Author.Rules.{rules}
 use Rattle.tracing.proofs.nudge.nudge_at.Goals as goal
 
 pub returns : goal.returns

@@ -1,12 +1,6 @@
 -- `tracing::nudge::nudge_inside` meets its contract. Assumes nothing.
-use Prim.Native.Nat.{◌-◌}
-use native.Mathlib.Omega.{arith}
-use Rattle.loops.specs.Loop.{on, turn}
-use Rattle.loops.proofs.LoopLaws.{Going, going_none}
-use Rattle.setup.specs.Place.{allowed_at}
-use Rattle.tracing.specs.Ring.{look_farther}
+use Rattle.loops.proofs.LoopLaws.{going_none}
 use Rattle.tracing.proofs.NudgeLaws.{nudge_none, nudge_to, nudge_on, nudge_end}
-use borrow.Author.Rules.{rules}
 use Rattle.tracing.proofs.nudge.nudge_inside.Goals as goal
 
 pub returns-then-allowed_at : goal.returns-then-allowed_at

@@ -1,12 +1,8 @@
 -- `tracing::nudge::nudge_inside` meets its contract. Assumes nothing.
-use Prim.Native.Nat.{◌-◌}
-use native.Mathlib.Omega.{arith}
 use Rattle.loops.specs.Loop.{on, turn}
-use Rattle.loops.proofs.LoopLaws.{Going, going_none}
+use Rattle.loops.proofs.LoopLaws.{Going}
 use Rattle.setup.specs.Place.{allowed_at}
 use Rattle.tracing.specs.Ring.{look_farther}
-use Rattle.tracing.proofs.NudgeLaws.{nudge_none, nudge_to, nudge_on, nudge_end}
-use borrow.Author.Rules.{rules}
 use Rattle.tracing.proofs.nudge.nudge_inside.Given as goal
 
 abbrev pub invariant-loop-r : goal.invariant-loop-r

@@ -1,6 +1,5 @@
 -- `tracing::ring::lay_ring` meets its contract. Assumes nothing.
 use Rattle.tracing.proofs.RingLaws.{ring_laid}
-use borrow.Author.Rules.{rules}
 use Rattle.tracing.proofs.ring.lay_ring.Goals as goal
 
 pub returns : goal.returns

@@ -1,6 +1,5 @@
 -- `tracing::ring::trace_ring` meets its contract. Assumes nothing.
 use Rattle.tracing.proofs.RingLaws.{nudge_asks, ring_traced}
-use borrow.Author.Rules.{rules}
 use Rattle.tracing.proofs.ring.trace_ring.Goals as goal
 
 pub nudge_all-requires : goal.nudge_all-requires

@@ -5,7 +5,6 @@ use Rattle.setup.specs.Place.{cells_of}
 use Rattle.pieces.specs.Piece.{Piece}
 use Rattle.workspace.specs.Lies.{Lies}
 use Rattle.tracing.proofs.RoundLaws.{smooth_asks, curves_lie, curves_beside, curves_are}
-use borrow.Author.Rules.{rules}
 use Rattle.tracing.proofs.round.curves.Goals as goal
 
 pub smooth-requires : goal.smooth-requires

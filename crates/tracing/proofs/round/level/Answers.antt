@@ -1,6 +1,5 @@
 -- `tracing::round::level` meets its contract. Assumes nothing.
 use Rattle.tracing.specs.Round.{level_of}
-use borrow.Author.Rules.{rules}
 use Rattle.tracing.proofs.round.level.Goals as goal
 
 pub returns : goal.returns

@@ -2,7 +2,6 @@
 use mathlib.Core.Path.{refl}
 use native.Mathlib.Omega.{arith}
 use Rattle.tracing.proofs.RoundLaws.{work-fits, round_traced}
-use borrow.Author.Rules.{rules}
 use Rattle.tracing.proofs.round.trace_round.Goals as goal
 
 pub overflow_mul-result : goal.overflow_mul-result

@@ -2,7 +2,6 @@
 use mathlib.Core.Path.{ap, ◌∙◌}
 use Rattle.numbers.specs.Root.{root_of}
 use Rattle.geom.specs.Vec.{distance_of}
-use borrow.Author.Rules.{rules}
 use Rattle.geom.proofs.vec2.Vec2.distance.Goals as goal
 
 pub returns : goal.returns

@@ -1,6 +1,5 @@
 -- `geom::vec2::Vec2::from_angle` meets its contract. Assumes nothing.
 use Rattle.geom.specs.Vec.{from_angle}
-use borrow.Author.Rules.{rules}
 use Rattle.geom.proofs.vec2.Vec2.from_angle.Goals as goal
 
 pub returns : goal.returns

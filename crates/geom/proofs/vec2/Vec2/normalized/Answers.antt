@@ -1,6 +1,5 @@
 -- `geom::vec2::Vec2::normalized` meets its contract. Assumes nothing.
 use Rattle.geom.specs.Vec.{normalized_of}
-use borrow.Author.Rules.{rules}
 use Rattle.geom.proofs.vec2.Vec2.normalized.Goals as goal
 
 pub returns-then-l : goal.returns-then-l
