@@ -1,6 +1,6 @@
 /* pocket.h: the proved pocket planner, as a station links it.
  *
- * The library is target/staticlib/libpocket.a (`rt staticlib pocket`), for x86-64 Linux. Every function here is
+ * The library is target/staticlib/libpocket.a (`rust/staticlib pocket`), for x86-64 Linux. Every function here is
  * proved, for all arguments: it ends, touches nothing outside what it is lent, and answers as its comment says.
  * docs/PROMISES.md leads from each sentence to the definition that is proved.
  *

@@ -1,4 +1,4 @@
-//! Links the proved functions of the layers: the archive that `rt staticlib abi` writes.
+//! Links the proved functions of the layers: the archive that `rust/staticlib abi` writes.
 use std::path::Path;
 
 fn main() {
@@ -7,7 +7,7 @@ fn main() {
     println!("cargo::rerun-if-changed={}", archive.display());
     if !archive.exists() {
         println!(
-            "cargo::error=target/staticlib/libabi.a is missing: run `rt staticlib abi` at the repository root"
+            "cargo::error=target/staticlib/libabi.a is missing: run `rust/staticlib abi` at the repository root"
         );
         return;
     }

@@ -1,4 +1,4 @@
-//! Links the proved functions: the archive that `rt staticlib pocket` writes.
+//! Links the proved functions: the archive that `rust/staticlib pocket` writes.
 use std::path::Path;
 
 fn main() {
@@ -7,7 +7,7 @@ fn main() {
     println!("cargo::rerun-if-changed={}", archive.display());
     if !archive.exists() {
         println!(
-            "cargo::error=target/staticlib/libpocket.a is missing: run `rt staticlib pocket` at the repository root"
+            "cargo::error=target/staticlib/libpocket.a is missing: run `rust/staticlib pocket` at the repository root"
         );
         return;
     }

@@ -12,4 +12,4 @@ put_cut-requires c = record { in_bounds = c.requires.in_bounds; in_bounds_2 = c.
 pub returns : goal.returns
 returns c =    let a = c.args in
     let m = c.passing-s.ensures in
-    cut_by _ _ _ _ _ _ _ _ _ _ m.0 m.1 _ _ _ _ a.listed-rows a.listed-triples a.planned-max a.work a.from a.m a.closed a.b.now a.u.now a.w.now a.rows.now a.triples.now _ _ _ _ _ _ a.counts.now _ a.floats.now _ c.place.ensures c.cut_piece-c.ensures.result_after (c.put_cut.ensures.value, (c.put_cut.ensures.counts_after, c.put_cut.ensures.floats_after))
+    cut_by _ _ _ _ _ _ _ _ _ _ m.0 m.1 _ _ _ _ a.listed_rows a.listed_triples a.planned_max a.work a.from a.m a.closed a.b.now a.u.now a.w.now a.rows.now a.triples.now _ _ _ _ _ _ a.counts.now _ a.floats.now _ c.place.ensures c.cut_piece-c.ensures.result_after (c.put_cut.ensures.value, (c.put_cut.ensures.counts_after, c.put_cut.ensures.floats_after))
