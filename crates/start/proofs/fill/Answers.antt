@@ -1,7 +1,6 @@
 -- `start::fill` meets its contract. Assumes nothing.
 use mathlib.Core.Path.{sym, ap, ◌∙◌}
 use native.Mathlib.Omega.{arith}
-use borrow.Author.Rules.{rules}
 use Rattle.start.specs.Start.{inside_of}
 use Rattle.start.proofs.StartLaws.{started-is}
 use Rattle.entry.proofs.RegionsLaws.{held-is}

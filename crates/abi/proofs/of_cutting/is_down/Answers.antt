@@ -1,6 +1,5 @@
 -- `abi::of_cutting::is_down` meets its contract. Assumes nothing.
 use Rattle.abi.specs.Cutting.{down_of}
-use borrow.Author.Rules.{rules}
 use Rattle.abi.proofs.of_cutting.is_down.Goals as goal
 
 pub returns-in-At : goal.returns-in-At

@@ -1,5 +1,4 @@
 -- `abi::of_cutting::place` meets its contract. Assumes nothing.
-use borrow.Author.Rules.{rules}
 use Rattle.abi.proofs.of_cutting.place.Goals as goal
 
 pub returns-then-down : goal.returns-then-down

@@ -1,6 +1,5 @@
 -- `abi::of_cutting::spot` meets its contract. Assumes nothing.
 use Rattle.abi.specs.Cutting.{spot_of}
-use borrow.Author.Rules.{rules}
 use Rattle.abi.proofs.of_cutting.spot.Goals as goal
 
 pub returns-in-At : goal.returns-in-At

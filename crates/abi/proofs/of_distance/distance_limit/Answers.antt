@@ -1,6 +1,5 @@
 -- `abi::of_distance::distance_limit` meets its contract. Assumes nothing.
 use native.Mathlib.Omega.{arith}
-use borrow.Author.Rules.{rules}
 use Rattle.abi.proofs.of_distance.distance_limit.Goals as goal
 
 pub returns-then-l : goal.returns-then-l

@@ -4,7 +4,6 @@ use native.Mathlib.Omega.{arith}
 use lib.ListN.{length-set}
 use Rattle.geom.specs.declared.region.Corners.{Corners}
 use Rattle.abi.specs.Geom.{put4}
-use borrow.Author.Rules.{rules}
 use Rattle.abi.proofs.of_geom.geom_bounds.Goals as goal
 
 pub bounds-out-1 : goal.bounds-out-1

@@ -1,7 +1,6 @@
 -- `abi::of_geom::put` meets its contract. Assumes nothing.
 use mathlib.Core.Path.{refl}
 use Rattle.abi.specs.Geom.{put2}
-use borrow.Author.Rules.{rules}
 use Rattle.abi.proofs.of_geom.put.Goals as goal
 
 pub returns : goal.returns

@@ -8,7 +8,6 @@ use lib.Ieee.{Float, nan}
 use Rattle.links.specs.declared.heap.Entry.{Entry}
 use Rattle.links.specs.Heap.{Popped}
 use Rattle.abi.specs.Links.{entry_of, popped_in}
-use borrow.Author.Rules.{rules}
 use Rattle.abi.proofs.of_links.links_pop.Goals as goal
 
 -- the entry is put together again
@@ -21,4 +20,4 @@ parted : (ests : List Float) (nodes : List ℕ) (n : ℕ) (e : Entry) (ests' : L
 parted ests nodes n e ests' nodes' est h p = subst (λ (x : Entry). Popped ests nodes n x ests' nodes') (whole est e h) p
 
 pub returns : goal.returns
-returns c =    parted _ _ _ _ _ _ c.args.est.now c.requires.est_nonzero c.pop-e.ensures
+returns c = parted _ _ _ _ _ _ c.args.est.now c.requires.est_nonzero c.pop-e.ensures

@@ -1,6 +1,5 @@
 -- `abi::of_links::links_push` meets its contract. Assumes nothing.
 use Rattle.abi.specs.Links.{entry_of}
-use borrow.Author.Rules.{rules}
 use Rattle.abi.proofs.of_links.links_push.Goals as goal
 
 pub returns : goal.returns

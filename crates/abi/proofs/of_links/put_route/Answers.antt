@@ -1,6 +1,5 @@
 -- `abi::of_links::put_route` meets its contract. Assumes nothing.
 use Rattle.abi.proofs.PathLaws.{put_along, put-lost}
-use borrow.Author.Rules.{rules}
 use Rattle.abi.proofs.of_links.put_route.Goals as goal
 
 pub returns-in-Along : goal.returns-in-Along

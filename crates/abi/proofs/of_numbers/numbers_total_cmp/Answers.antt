@@ -1,6 +1,5 @@
 -- `abi::of_numbers::numbers_total_cmp` meets its contract: a number for each case. Assumes nothing.
 use mathlib.Core.Path.{sym, ap, ◌∙◌}
-use borrow.Author.Rules.{rules}
 use Rattle.abi.specs.Numbers.{sign_of}
 use Rattle.abi.proofs.of_numbers.numbers_total_cmp.Goals as goal
 

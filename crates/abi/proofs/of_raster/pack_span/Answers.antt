@@ -1,6 +1,5 @@
 -- `abi::of_raster::pack_span` meets its contract. Assumes nothing.
 use Rattle.abi.specs.Raster.{packed_span}
-use borrow.Author.Rules.{rules}
 use Rattle.abi.proofs.of_raster.pack_span.Goals as goal
 
 pub returns-in-Empty : goal.returns-in-Empty

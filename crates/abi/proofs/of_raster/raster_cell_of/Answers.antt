@@ -3,11 +3,10 @@ use mathlib.Core.Path.{sym, ap, ◌∙◌}
 use native.Mathlib.Omega.{arith}
 use Rattle.raster.proofs.GridLaws.{on-grid-at}
 use Rattle.abi.specs.Raster.{packed_cell}
-use borrow.Author.Rules.{rules}
 use Rattle.abi.proofs.of_raster.raster_cell_of.Goals as goal
 
 pub pack-requires : goal.pack-requires
-pack-requires c =     let w = on-grid-at _ _ _ _ _ c.cell_of-f.ensures c.in-At.is in record { i_bound = omega (arith, w.0, c.requires.nx_bound); j_bound = omega (arith, w.1, c.requires.ny_bound); }
+pack-requires c = let w = on-grid-at _ _ _ _ _ c.cell_of-f.ensures c.in-At.is in record { i_bound = omega (arith, w.0, c.requires.nx_bound); j_bound = omega (arith, w.1, c.requires.ny_bound) }
 
 pub returns-in-Nothing : goal.returns-in-Nothing
 unfolding packed_cell

@@ -2,7 +2,6 @@
 use mathlib.Core.Path.{ap, ◌∙◌}
 use Rattle.geom.specs.declared.vec2.Vec2.{Vec2}
 use Rattle.abi.specs.Geom.{put2}
-use borrow.Author.Rules.{rules}
 use Rattle.abi.proofs.of_raster.raster_center.Goals as goal
 
 pub returns : goal.returns

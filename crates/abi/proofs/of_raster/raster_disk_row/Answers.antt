@@ -2,7 +2,6 @@
 use mathlib.Core.Path.{ap, ◌∙◌}
 use Rattle.raster.specs.Disk.{disk_row}
 use Rattle.abi.specs.Raster.{packed_span}
-use borrow.Author.Rules.{rules}
 use Rattle.abi.proofs.of_raster.raster_disk_row.Goals as goal
 
 pub returns : goal.returns

@@ -3,20 +3,19 @@ use mathlib.Core.Path.{sym, ◌∙◌}
 use native.Mathlib.Omega.{arith}
 use Rattle.rims.proofs.TileLaws.{tiles_long}
 use Rattle.abi.proofs.SetupLaws.{walls_of_lem, over-grid, tables_made, link-plain}
-use borrow.Author.Rules.{rules}
 use Rattle.abi.proofs.of_setup.links_link_clear.Goals as goal
 
 pub slice_bounds-fill-end : goal.slice_bounds-fill-end
 slice_bounds-fill-end c = sym tiles_long
 
 pub fill-requires : goal.fill-requires
-fill-requires c = record { over = over-grid _ _ _ _ _ _ c.made-s.ensures.0 _ c.requires.over_2; in_bounds = omega (arith, tiles_long); }
+fill-requires c = record { over = over-grid _ _ _ _ _ _ c.made-s.ensures.0 _ c.requires.over_2; in_bounds = omega (arith, tiles_long) }
 
 pub slice_bounds-link_clear-end : goal.slice_bounds-link_clear-end
 slice_bounds-link_clear-end c = sym (c.fill.auto.tiles ∙ tiles_long)
 
 pub link_clear-requires : goal.link_clear-requires
-link_clear-requires c =     let m = c.made-s in record { walls = walls_of_lem _ _ _ _ _ _ m.ensures.0 _ _ _ m.ensures.1 c.requires.over c.requires.held; over = over-grid _ _ _ _ _ _ m.ensures.0 _ c.requires.over_2; tiled = c.fill.ensures; tables = tables_made _ _ _ _ _ _ m.ensures.0 _ c.requires.tables; }
+link_clear-requires c = let m = c.made-s in record { walls = walls_of_lem _ _ _ _ _ _ m.ensures.0 _ _ _ m.ensures.1 c.requires.over c.requires.held; over = over-grid _ _ _ _ _ _ m.ensures.0 _ c.requires.over_2; tiled = c.fill.ensures; tables = tables_made _ _ _ _ _ _ m.ensures.0 _ c.requires.tables }
 
 pub returns : goal.returns
 returns c = c.link_clear.ensures ∙ link-plain _ _ _ _ _ _ c.made-s.ensures.0 _ _ _ _ _ _

@@ -1,7 +1,6 @@
 -- `abi::of_setup::setup_allowed_at` meets its contract. Assumes nothing.
 use mathlib.Core.Path.{◌∙◌}
 use Rattle.abi.proofs.SetupLaws.{walls_of_lem, allowed-plain}
-use borrow.Author.Rules.{rules}
 use Rattle.abi.proofs.of_setup.setup_allowed_at.Goals as goal
 
 pub allowed_at-requires : goal.allowed_at-requires

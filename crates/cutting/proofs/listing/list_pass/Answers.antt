@@ -1,6 +1,5 @@
 -- `cutting::listing::list_pass` meets its contract. Assumes nothing.
 use Rattle.cutting.proofs.ListingLaws.{pass-put}
-use borrow.Author.Rules.{rules}
 use Rattle.cutting.proofs.listing.list_pass.Goals as goal
 
 pub returns : goal.returns

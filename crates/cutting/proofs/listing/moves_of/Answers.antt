@@ -1,7 +1,6 @@
 -- `cutting::listing::moves_of` meets its contract. Assumes nothing.
 use mathlib.Core.Path.{sym}
 use Rattle.cutting.proofs.ListingLaws.{along_moves, lost_moves}
-use borrow.Author.Rules.{rules}
 use Rattle.cutting.proofs.listing.moves_of.Goals as goal
 
 pub returns-in-Along : goal.returns-in-Along

@@ -1,7 +1,6 @@
 -- `cutting::listing::put_plunge` meets its contract. Assumes nothing.
 use mathlib.Core.Path.{◌∙◌}
 use Rattle.cutting.proofs.ListingLaws.{plunge-put}
-use borrow.Author.Rules.{rules}
 use Rattle.cutting.proofs.listing.put_plunge.Goals as goal
 
 pub returns : goal.returns

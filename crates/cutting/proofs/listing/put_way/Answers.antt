@@ -1,7 +1,6 @@
 -- `cutting::listing::put_way` meets its contract. Assumes nothing.
 use Rattle.cutting.proofs.ListingLaws.{along_moves, lost_moves, room_at, way-along, way-lost, way-put}
 use native.Mathlib.Omega.{arith}
-use borrow.Author.Rules.{rules}
 use Rattle.cutting.proofs.listing.put_way.Goals as goal
 
 pub put_links-requires : goal.put_links-requires

@@ -1,6 +1,5 @@
 -- `cutting::piece::cut_piece` meets its contract. Assumes nothing.
 use Rattle.cutting.proofs.PieceLaws.{try_asks, cut-refused, cut-nothing, go_asks, cut-kept}
-use borrow.Author.Rules.{rules}
 use Rattle.cutting.proofs.piece.cut_piece.Goals as goal
 
 pub try_piece-a-requires : goal.try_piece-a-requires

@@ -1,7 +1,6 @@
 -- `cutting::piece::go_and_keep` meets its contract. Assumes nothing.
 use native.Mathlib.Omega.{arith}
 use Rattle.cutting.proofs.GoLaws.{way_asks, keep_asks, went-is}
-use borrow.Author.Rules.{rules}
 use Rattle.cutting.proofs.piece.go_and_keep.Goals as goal
 
 pub way_to-r-requires : goal.way_to-r-requires

@@ -4,7 +4,6 @@ use native.Mathlib.Omega.{arith}
 use lib.ListN.{length}
 use Rattle.cutting.proofs.SettleLaws.{settled_not}
 use Rattle.cutting.proofs.KeepLaws.{keep-refused, keep-fits, keep-listed}
-use borrow.Author.Rules.{rules}
 use Rattle.cutting.proofs.piece.keep_pass.Goals as goal
 use Rattle.cutting.proofs.piece.keep_pass.Goals.{Else-no-ne0}
 

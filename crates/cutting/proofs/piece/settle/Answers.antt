@@ -1,6 +1,5 @@
 -- `cutting::piece::settle` meets its contract. Assumes nothing.
 use Rattle.cutting.proofs.SettleLaws.{first-logged, second_logged, settle_is}
-use borrow.Author.Rules.{rules}
 use Rattle.cutting.proofs.piece.settle.Goals as goal
 
 pub clear_again-requires : goal.clear_again-requires

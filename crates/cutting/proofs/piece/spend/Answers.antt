@@ -1,6 +1,5 @@
 -- `cutting::piece::spend` meets its contract. Assumes nothing.
 use Rattle.cutting.proofs.KeepLaws.{spend_is}
-use borrow.Author.Rules.{rules}
 use Rattle.cutting.proofs.piece.spend.Goals as goal
 
 pub returns : goal.returns

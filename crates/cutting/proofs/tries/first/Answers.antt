@@ -1,6 +1,5 @@
 -- `cutting::tries::first` meets its contract. Assumes nothing.
 use Rattle.cutting.proofs.TriesLaws.{first-near}
-use borrow.Author.Rules.{rules}
 use Rattle.cutting.proofs.tries.first.Goals as goal
 
 pub returns-then-closed : goal.returns-then-closed

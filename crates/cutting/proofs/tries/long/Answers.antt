@@ -1,6 +1,5 @@
 -- `cutting::tries::long` meets its contract. Assumes nothing.
 use Rattle.cutting.specs.Tries.{guide_long}
-use borrow.Author.Rules.{rules}
 use Rattle.cutting.proofs.tries.long.Goals as goal
 
 pub returns-then-closed : goal.returns-then-closed

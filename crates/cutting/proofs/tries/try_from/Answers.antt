@@ -1,6 +1,5 @@
 -- `cutting::tries::try_from` meets its contract. Assumes nothing.
 use Rattle.cutting.proofs.TriesLaws.{start_fits, try_only, try_is}
-use borrow.Author.Rules.{rules}
 use Rattle.cutting.proofs.tries.try_from.Goals as goal
 
 pub try_start-requires : goal.try_start-requires

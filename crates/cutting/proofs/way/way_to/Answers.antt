@@ -1,6 +1,5 @@
 -- `cutting::way::way_to` meets its contract. Assumes nothing.
 use Rattle.cutting.proofs.WayLaws.{route_nowhere, route_up, route_down, still}
-use borrow.Author.Rules.{rules}
 use Rattle.cutting.proofs.way.way_to.Goals as goal
 
 pub returns-in_default : goal.returns-in_default

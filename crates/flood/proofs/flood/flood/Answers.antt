@@ -7,7 +7,6 @@ use Rattle.setup.specs.Layout.{map_in}
 use Rattle.workspace.specs.Standing.{reach_in, abandoned_in, abandoned_put}
 use Rattle.flood.specs.Flood.{flood_of}
 use Rattle.flood.proofs.FloodLaws.{first_cell, some-room}
-use borrow.Author.Rules.{rules}
 use Rattle.flood.proofs.flood.flood.Goals as goal
 
 pub bounds-stack-0 : goal.bounds-stack-0

@@ -1,10 +1,8 @@
 -- `flood::flood::flood_on` meets its contract. Assumes nothing.
-use mathlib.Core.Path.{◌≡◌, refl}
+use mathlib.Core.Path.{◌≡◌}
 use Prim.Native.Nat.{◌-◌}
-use native.Mathlib.Omega.{arith}
 use lib.ListN.{length, get_or}
-use borrow.Author.Rules.{rules}
-use Rattle.flood.proofs.FloodLaws.{Flooding, flooding_none, flooding_asks, flooding_more, flooding_out, flooding_end, flooding_long}
+use Rattle.flood.proofs.FloodLaws.{Flooding}
 use Rattle.flood.proofs.flood.flood_on.Given as goal
 
 abbrev pub invariant-loop-t : goal.invariant-loop-t

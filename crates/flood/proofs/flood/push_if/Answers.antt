@@ -2,7 +2,6 @@
 use mathlib.Core.Path.{◌∙◌}
 use native.Mathlib.Omega.{arith}
 use Rattle.flood.proofs.FloodLaws.{push_new, push_old}
-use borrow.Author.Rules.{rules}
 use Rattle.flood.proofs.flood.push_if.Goals as goal
 
 pub overflow_sub-k : goal.overflow_sub-k

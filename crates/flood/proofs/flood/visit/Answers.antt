@@ -3,7 +3,6 @@ use mathlib.Core.Path.{ap, ◌∙◌}
 use Prim.Native.Nat.{ℕ, ◌+◌}
 use native.Mathlib.Omega.{arith}
 use Rattle.flood.proofs.FloodLaws.{visit_open, visit_shut}
-use borrow.Author.Rules.{rules}
 use Rattle.flood.proofs.flood.visit.Goals as goal
 
 pub returns-then-is_open : goal.returns-then-is_open

@@ -1,6 +1,5 @@
 -- `flood::place::better` meets its contract. Assumes nothing.
 use Rattle.flood.proofs.PlaceLaws.{better_first, better_new, better_old}
-use borrow.Author.Rules.{rules}
 use Rattle.flood.proofs.place.better.Goals as goal
 
 pub returns-in_default : goal.returns-in_default

@@ -1,6 +1,5 @@
 -- `flood::place::farther` meets its contract. Assumes nothing.
 use Rattle.flood.proofs.PlaceLaws.{farther_new, farther_old}
-use borrow.Author.Rules.{rules}
 use Rattle.flood.proofs.place.farther.Goals as goal
 
 pub returns-then-is_open-b : goal.returns-then-is_open-b

@@ -1,11 +1,7 @@
 -- `flood::place::farthest` meets its contract. Assumes nothing.
 use Prim.Native.Nat.{◌-◌}
-use native.Mathlib.Omega.{arith}
-use Rattle.setup.specs.Layout.{map_in, allowed_in}
-use Rattle.workspace.specs.Standing.{reach_in, abandoned_in}
-use Rattle.loops.proofs.LoopLaws.{Going, going_none, going_more, going_end}
-use Rattle.flood.specs.Place.{farther_of, farthest_of}
-use Rattle.flood.specs.declared.place.Far.TheVariants.{Nothing}
+use Rattle.loops.proofs.LoopLaws.{going_none, going_more, going_end}
+use Rattle.flood.specs.Place.{farthest_of}
 use Rattle.flood.proofs.place.farthest.Goals as goal
 
 pub loop-k-init : goal.loop-k-init

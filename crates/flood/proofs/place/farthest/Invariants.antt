@@ -1,10 +1,9 @@
 -- `flood::place::farthest` meets its contract. Assumes nothing.
 use Prim.Native.Nat.{◌-◌}
-use native.Mathlib.Omega.{arith}
 use Rattle.setup.specs.Layout.{map_in, allowed_in}
 use Rattle.workspace.specs.Standing.{reach_in, abandoned_in}
-use Rattle.loops.proofs.LoopLaws.{Going, going_none, going_more, going_end}
-use Rattle.flood.specs.Place.{farther_of, farthest_of}
+use Rattle.loops.proofs.LoopLaws.{Going}
+use Rattle.flood.specs.Place.{farther_of}
 use Rattle.flood.specs.declared.place.Far.TheVariants.{Nothing}
 use Rattle.flood.proofs.place.farthest.Given as goal
 

@@ -1,6 +1,5 @@
 -- `flood::place::is_open` meets its contract. Assumes nothing.
 use Rattle.flood.proofs.PlaceLaws.{open_is}
-use borrow.Author.Rules.{rules}
 use Rattle.flood.proofs.place.is_open.Goals as goal
 
 pub returns : goal.returns

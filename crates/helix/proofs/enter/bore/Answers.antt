@@ -2,7 +2,6 @@
 use Prim.Native.Nat.{◌*◌}
 use native.Mathlib.Omega.{arith}
 use Rattle.helix.proofs.EnterLaws.{bore_refused, bore_fits, bore_listed}
-use borrow.Author.Rules.{rules}
 use Rattle.helix.proofs.enter.bore.Goals as goal
 
 pub returns-then-no-ne0 : goal.returns-then-no-ne0

@@ -1,7 +1,6 @@
 -- `helix::enter::end_of` meets its contract. Assumes nothing.
 use lib.Ieee.{of_bits}
 use Rattle.events.specs.Replay.{helix_end}
-use borrow.Author.Rules.{rules}
 use Rattle.helix.proofs.enter.end_of.Goals as goal
 
 pub returns : goal.returns

@@ -1,6 +1,5 @@
 -- `helix::enter::enter` meets its contract. Assumes nothing.
 use Rattle.helix.proofs.EnterLaws.{find_asks, bore_asks, enter_none, enter_bored}
-use borrow.Author.Rules.{rules}
 use Rattle.helix.proofs.enter.enter.Goals as goal
 
 pub find-f-requires : goal.find-f-requires

@@ -1,14 +1,8 @@
 -- `helix::radius::radius_at` meets its contract. Assumes nothing.
 use mathlib.Core.Path.{sym, ap, ◌∙◌}
 use Prim.Native.Nat.{◌-◌}
-use native.Mathlib.Omega.{arith}
 use lib.Ieee.{Float, of_bits, le}
-use borrow.Author.Tests.{not-true, not-false}
-use borrow.Author.Rules.{rules}
-use Rattle.loops.specs.Loop.{on, turn}
-use Rattle.loops.proofs.LoopLaws.{Going, going_none}
-use Rattle.events.specs.Helix.{shrink}
-use Rattle.helix.specs.Search.{bare_job}
+use Rattle.loops.proofs.LoopLaws.{going_none}
 use Rattle.helix.proofs.RadiusLaws.{radius-none, radius-some, radius_more, radius-end}
 use Rattle.helix.proofs.radius.radius_at.Goals as goal
 

@@ -2,12 +2,7 @@
 use mathlib.Core.Path.{ap, ◌∙◌}
 use mathlib.Core.Bool.{false, not}
 use Prim.Native.Nat.{◌-◌}
-use native.Mathlib.Omega.{arith}
-use borrow.Author.Rules.{rules}
-use Rattle.loops.specs.Loop.{or_at}
-use Rattle.loops.proofs.LoopLaws.{Going, going_none, any-on, any_out, any_none}
-use Rattle.events.specs.Helix.{rim_blocked}
-use Rattle.helix.specs.Search.{bare_job}
+use Rattle.loops.proofs.LoopLaws.{going_none, any-on, any_out, any_none}
 use Rattle.helix.proofs.RadiusLaws.{blocked-is}
 use Rattle.helix.proofs.radius.rim_allowed.Goals as goal
 

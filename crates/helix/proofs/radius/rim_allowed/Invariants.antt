@@ -1,14 +1,10 @@
 -- `helix::radius::rim_allowed` meets its contract. Assumes nothing.
-use mathlib.Core.Path.{ap, ◌∙◌}
-use mathlib.Core.Bool.{false, not}
+use mathlib.Core.Bool.{false}
 use Prim.Native.Nat.{◌-◌}
-use native.Mathlib.Omega.{arith}
-use borrow.Author.Rules.{rules}
 use Rattle.loops.specs.Loop.{or_at}
-use Rattle.loops.proofs.LoopLaws.{Going, going_none, any-on, any_out, any_none}
+use Rattle.loops.proofs.LoopLaws.{Going}
 use Rattle.events.specs.Helix.{rim_blocked}
 use Rattle.helix.specs.Search.{bare_job}
-use Rattle.helix.proofs.RadiusLaws.{blocked-is}
 use Rattle.helix.proofs.radius.rim_allowed.Given as goal
 
 abbrev pub invariant-loop-k : goal.invariant-loop-k

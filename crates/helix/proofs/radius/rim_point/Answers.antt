@@ -1,6 +1,5 @@
 -- `helix::radius::rim_point` meets its contract. Assumes nothing.
 use Rattle.helix.proofs.RadiusLaws.{rim-is}
-use borrow.Author.Rules.{rules}
 use Rattle.helix.proofs.radius.rim_point.Goals as goal
 
 pub returns : goal.returns

@@ -1,10 +1,8 @@
 -- `helix::search::find` meets its contract. Assumes nothing.
-use mathlib.Core.Path.{◌≡◌, refl, ◌∙◌}
+use mathlib.Core.Path.{refl, ◌∙◌}
 use Prim.Native.Nat.{◌-◌}
 use native.Mathlib.Omega.{arith}
-use lib.ListN.{length}
-use borrow.Author.Rules.{rules}
-use Rattle.helix.proofs.SearchLaws.{Tried, tried-none, tried-long, found_none, found-one, tried_more, found-end}
+use Rattle.helix.proofs.SearchLaws.{tried-none, tried-long, found_none, found-one, tried_more, found-end}
 use Rattle.helix.proofs.search.find.Goals as goal
 
 pub loop-k-init : goal.loop-k-init

@@ -1,7 +1,6 @@
 -- `helix::search::widest` meets its contract. Assumes nothing.
 use lib.Ieee.{of_bits}
 use Rattle.helix.specs.Search.{widest_of}
-use borrow.Author.Rules.{rules}
 use Rattle.helix.proofs.search.widest.Goals as goal
 
 pub returns : goal.returns

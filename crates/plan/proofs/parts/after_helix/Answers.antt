@@ -1,7 +1,6 @@
 -- `plan::parts::after_helix` meets its contract. Assumes nothing.
 use native.Mathlib.Omega.{arith}
 use Rattle.plan.proofs.PartsLaws.{bored-sum, none-sum, helix-bored, helix-none, helix-refused}
-use borrow.Author.Rules.{rules}
 use Rattle.plan.proofs.parts.after_helix.Goals as goal
 
 pub overflow_add-result : goal.overflow_add-result

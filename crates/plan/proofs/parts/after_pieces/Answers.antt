@@ -1,6 +1,5 @@
 -- `plan::parts::after_pieces` meets its contract. Assumes nothing.
 use Rattle.plan.proofs.PartsLaws.{pieces_kept, pieces_none, pieces-refused}
-use borrow.Author.Rules.{rules}
 use Rattle.plan.proofs.parts.after_pieces.Goals as goal
 
 pub returns-then-any : goal.returns-then-any

@@ -1,6 +1,5 @@
 -- `plan::parts::after_ring` meets its contract. Assumes nothing.
 use Rattle.plan.proofs.PartsLaws.{ring_kept, ring_none, ring_refused}
-use borrow.Author.Rules.{rules}
 use Rattle.plan.proofs.parts.after_ring.Goals as goal
 
 pub returns-then-any : goal.returns-then-any

@@ -1,6 +1,5 @@
 -- `plan::parts::cut_pieces` meets its contract. Assumes nothing.
 use Rattle.plan.proofs.PartsLaws.{pieces-ask, pieces_part_lem}
-use borrow.Author.Rules.{rules}
 use Rattle.plan.proofs.parts.cut_pieces.Goals as goal
 
 pub cut_pieces-c-requires : goal.cut_pieces-c-requires

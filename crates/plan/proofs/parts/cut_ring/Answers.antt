@@ -1,6 +1,5 @@
 -- `plan::parts::cut_ring` meets its contract. Assumes nothing.
 use Rattle.plan.proofs.PartsLaws.{ring_done, ring_asks, ring_part_lem}
-use borrow.Author.Rules.{rules}
 use Rattle.plan.proofs.parts.cut_ring.Goals as goal
 
 pub returns-then-p : goal.returns-then-p

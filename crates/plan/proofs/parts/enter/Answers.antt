@@ -1,6 +1,5 @@
 -- `plan::parts::enter` meets its contract. Assumes nothing.
 use Rattle.plan.proofs.PartsLaws.{helix_asks, helix_part_lem}
-use borrow.Author.Rules.{rules}
 use Rattle.plan.proofs.parts.enter.Goals as goal
 
 pub after_helix-requires : goal.after_helix-requires

@@ -1,7 +1,6 @@
 -- `plan::parts::rest` meets its contract. Assumes nothing.
 use mathlib.Core.Path.{◌∙◌}
 use Rattle.plan.proofs.PartsLaws.{rest_leaves, rest_asks, rest_goes_on}
-use borrow.Author.Rules.{rules}
 use borrow.Enum.Refused.{opened}
 use Rattle.plan.proofs.parts.rest.Goals as goal
 

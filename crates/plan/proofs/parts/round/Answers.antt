@@ -1,7 +1,6 @@
 -- `plan::parts::round` meets its contract. Assumes nothing.
 use mathlib.Core.Path.{◌∙◌}
 use Rattle.plan.proofs.PartsLaws.{round_leaves, round_asks, round_goes_on}
-use borrow.Author.Rules.{rules}
 use borrow.Enum.Refused.{opened}
 use Rattle.plan.proofs.parts.round.Goals as goal
 

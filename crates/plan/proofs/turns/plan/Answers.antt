@@ -2,8 +2,7 @@
 use mathlib.Core.Path.{◌∙◌}
 use Prim.Native.Nat.{◌-◌}
 use native.Mathlib.Omega.{arith}
-use borrow.Author.Rules.{rules}
-use Rattle.plan.proofs.TurnsLaws.{Planning, planning_none, round_asked, plan_spent, plan_ends, planning_more, plan_next, plan_done, plan_refused}
+use Rattle.plan.proofs.TurnsLaws.{planning_none, round_asked, plan_spent, plan_ends, planning_more, plan_next, plan_done, plan_refused}
 use Rattle.plan.proofs.turns.plan.Goals as goal
 
 pub loop-k-init : goal.loop-k-init

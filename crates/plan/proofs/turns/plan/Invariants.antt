@@ -1,9 +1,6 @@
 -- `plan::turns::plan` meets its contract. Assumes nothing.
-use mathlib.Core.Path.{◌∙◌}
 use Prim.Native.Nat.{◌-◌}
-use native.Mathlib.Omega.{arith}
-use borrow.Author.Rules.{rules}
-use Rattle.plan.proofs.TurnsLaws.{Planning, planning_none, round_asked, plan_spent, plan_ends, planning_more, plan_next, plan_done, plan_refused}
+use Rattle.plan.proofs.TurnsLaws.{Planning}
 use Rattle.plan.proofs.turns.plan.Given as goal
 
 abbrev pub invariant-loop-k : goal.invariant-loop-k

@@ -2,7 +2,6 @@
 use mathlib.Core.Path.{sym, ◌∙◌}
 use Rattle.entry.proofs.JudgedLaws.{judged_fit}
 use Rattle.planner.proofs.FitLaws.{outcome-refused, outcome_planned, outcome-told}
-use borrow.Author.Rules.{rules}
 use Rattle.planner.proofs.outcome.adaptive_clear.Goals as goal
 
 pub plan_fit-requires : goal.plan_fit-requires

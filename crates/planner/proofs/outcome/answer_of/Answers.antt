@@ -1,7 +1,6 @@
 -- `planner::outcome::answer_of` meets its contract. Assumes nothing.
 use Rattle.planner.proofs.AnswerLaws.{answer_stopped, answer-unentered, answer_accepted, listed-rows}
 use Rattle.planner.specs.Planner.{unentered}
-use borrow.Author.Rules.{rules}
 use Rattle.planner.proofs.outcome.answer_of.Goals as goal
 
 pub returns-then-t-starting : goal.returns-then-t-starting

@@ -1,6 +1,5 @@
 -- `planner::outcome::plan_fit` meets its contract. Assumes nothing.
 use Rattle.planner.proofs.FitLaws.{ready_asks, planning_asks, fit_outcome}
-use borrow.Author.Rules.{rules}
 use Rattle.planner.proofs.outcome.plan_fit.Goals as goal
 
 pub make_ready-requires : goal.make_ready-requires

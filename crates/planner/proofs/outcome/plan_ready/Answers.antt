@@ -1,7 +1,5 @@
 -- `planner::outcome::plan_ready` meets its contract. Assumes nothing.
-use mathlib.Core.Path.{◌∙◌}
 use native.Mathlib.Omega.{arith}
-use borrow.Author.Rules.{rules}
 use Rattle.planner.proofs.ReadyLaws.{threes_fit, threes-few, none-listed, rows-room, triples-room, listed_back, clear_asked, ready-outcome}
 use Rattle.planner.proofs.outcome.plan_ready.Goals as goal
 

@@ -1,7 +1,6 @@
 -- `planner::outcome::used_by` meets its contract. Assumes nothing.
 use Rattle.planner.proofs.AnswerLaws.{used-none, used_stopped, used_finished}
 use mathlib.Core.Path.{refl}
-use borrow.Author.Rules.{rules}
 use Rattle.planner.proofs.outcome.used_by.Goals as goal
 
 pub returns-in-Refused : goal.returns-in-Refused

@@ -1,6 +1,5 @@
 -- `pocket::adaptive::of_answer` meets its contract. Assumes nothing.
 use Rattle.pocket.proofs.PlanLaws.{accepted_is, refused-is}
-use borrow.Author.Rules.{rules}
 use Rattle.pocket.proofs.adaptive.of_answer.Goals as goal
 
 pub returns-in-Accepted : goal.returns-in-Accepted

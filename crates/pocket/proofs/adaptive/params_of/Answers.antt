@@ -1,6 +1,5 @@
 -- `pocket::adaptive::params_of` meets its contract. Assumes nothing.
 use Rattle.pocket.specs.Plan.{params_of}
-use borrow.Author.Rules.{rules}
 use Rattle.pocket.proofs.adaptive.params_of.Goals as goal
 
 pub returns : goal.returns

@@ -1,6 +1,5 @@
 -- `pocket::adaptive::pocket_adaptive_clear` meets its contract. Assumes nothing.
 use Rattle.pocket.proofs.PlanLaws.{plan_told, plan_answered}
-use borrow.Author.Rules.{rules}
 use Rattle.pocket.proofs.adaptive.pocket_adaptive_clear.Goals as goal
 
 pub returns : goal.returns

@@ -1,6 +1,5 @@
 -- `pocket::answers::of_rim` meets its contract. Assumes nothing.
 use mathlib.Core.Path.{sym, ap}
-use borrow.Author.Rules.{rules}
 use Rattle.pocket.specs.Answers.{of_rim}
 use Rattle.pocket.proofs.answers.of_rim.Goals as goal
 

@@ -1,7 +1,6 @@
 -- `pocket::far::distance_map` meets its contract. Assumes nothing.
 use mathlib.Core.Path.{sym, ◌∙◌}
 use native.Mathlib.Omega.{arith}
-use borrow.Author.Rules.{rules}
 use Rattle.distance.proofs.NearestLaws.{transform_long}
 use Rattle.pocket.specs.declared.answers.Done.TheVariants.{Refused}
 use Rattle.pocket.specs.Leaves.{on_far, distance_map_of}

@@ -1,8 +1,6 @@
 -- `pocket::far::far_refusal` meets its contract. Assumes nothing.
 use mathlib.Core.Path.{refl, sym, ◌∙◌}
 use native.Mathlib.Omega.{arith}
-use borrow.Author.Tests.{not-true, not-false}
-use borrow.Author.Rules.{rules}
 use Rattle.pocket.specs.Refusals.{far_refusal}
 use Rattle.pocket.proofs.AskedLaws.{sides-few, map-sides}
 use Rattle.pocket.proofs.LeafLaws.{when_yes, when_not}

@@ -1,5 +1,4 @@
 -- `pocket::far::pocket_distance_map` meets its contract. Assumes nothing.
-use borrow.Author.Rules.{rules}
 use Rattle.pocket.specs.Answers.{of_done}
 use Rattle.pocket.proofs.LeafLaws.{told-far}
 use Rattle.pocket.proofs.FarLaws.{map_finished}

@@ -2,7 +2,6 @@
 use mathlib.Core.Path.{sym, ap, ◌∙◌}
 use mathlib.Core.List.{List}
 use Prim.Native.Nat.{ℕ}
-use borrow.Author.Rules.{rules}
 use Rattle.pocket.specs.declared.answers.Done.TheVariants.{Refused, Finished}
 use Rattle.pocket.specs.Leaves.{on_map, clear_again_of}
 use Rattle.pocket.proofs.LeafLaws.{is-refused, is-answered}

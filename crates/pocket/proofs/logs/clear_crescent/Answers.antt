@@ -1,7 +1,6 @@
 -- `pocket::logs::clear_crescent` meets its contract. Assumes nothing.
 use mathlib.Core.Path.{sym, ◌∙◌}
 use native.Mathlib.Omega.{arith}
-use borrow.Author.Rules.{rules}
 use Rattle.pocket.specs.declared.answers.Count.TheVariants.{Refused}
 use Rattle.pocket.specs.Leaves.{on_log, clear_crescent_of}
 use Rattle.pocket.proofs.LeafLaws.{is-refused}

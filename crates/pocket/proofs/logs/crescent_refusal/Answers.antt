@@ -1,8 +1,6 @@
 -- `pocket::logs::crescent_refusal` meets its contract. Assumes nothing.
 use mathlib.Core.Path.{sym, ◌∙◌}
 use native.Mathlib.Omega.{arith}
-use borrow.Author.Tests.{not-true, not-false}
-use borrow.Author.Rules.{rules}
 use Rattle.pocket.proofs.AskedLaws.{both_are, map_by_lem, map-over}
 use Rattle.pocket.proofs.CrescentLaws.{crescent-first, crescent-full, crescent-fits}
 use Rattle.pocket.proofs.logs.crescent_refusal.Goals as goal

@@ -1,8 +1,6 @@
 -- `pocket::logs::log_refusal` meets its contract. Assumes nothing.
 use mathlib.Core.Path.{sym, ◌∙◌}
 use native.Mathlib.Omega.{arith}
-use borrow.Author.Tests.{not-true, not-false}
-use borrow.Author.Rules.{rules}
 use Rattle.pocket.proofs.AskedLaws.{sides-few}
 use Rattle.pocket.proofs.LoggedLaws.{log_odd, log_not, log-rest}
 use Rattle.pocket.proofs.logs.log_refusal.Goals as goal

@@ -1,5 +1,4 @@
 -- `pocket::logs::pocket_clear_again` meets its contract. Assumes nothing.
-use borrow.Author.Rules.{rules}
 use Rattle.pocket.specs.Answers.{of_done}
 use Rattle.pocket.proofs.LeafLaws.{told-map}
 use Rattle.pocket.proofs.logs.pocket_clear_again.Goals as goal

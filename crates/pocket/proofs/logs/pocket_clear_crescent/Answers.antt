@@ -1,5 +1,4 @@
 -- `pocket::logs::pocket_clear_crescent` meets its contract. Assumes nothing.
-use borrow.Author.Rules.{rules}
 use Rattle.pocket.specs.Answers.{of_count}
 use Rattle.pocket.proofs.LeafLaws.{told-log}
 use Rattle.pocket.proofs.logs.pocket_clear_crescent.Goals as goal

@@ -1,5 +1,4 @@
 -- `pocket::logs::room_fits` meets its contract. Assumes nothing.
-use borrow.Author.Rules.{rules}
 use Rattle.pocket.proofs.CrescentLaws.{room-none, room-all, room-some}
 use Rattle.pocket.proofs.logs.room_fits.Goals as goal
 

@@ -1,6 +1,5 @@
 -- `pocket::maps::clear_disk` meets its contract. Assumes nothing.
 use mathlib.Core.Path.{sym, ap, ◌∙◌}
-use borrow.Author.Rules.{rules}
 use Rattle.raster.specs.Stock.{Cleared}
 use Rattle.pocket.specs.declared.answers.Count.TheVariants.{Refused, Of}
 use Rattle.pocket.specs.Leaves.{on_map, clear_disk_of}

@@ -1,6 +1,5 @@
 -- `pocket::maps::count_disk` meets its contract. Assumes nothing.
 use mathlib.Core.Path.{sym, ap, ◌∙◌}
-use borrow.Author.Rules.{rules}
 use Rattle.pocket.specs.declared.answers.Count.TheVariants.{Refused, Of}
 use Rattle.pocket.specs.Leaves.{count_disk_of}
 use Rattle.pocket.proofs.AskedLaws.{map-over}

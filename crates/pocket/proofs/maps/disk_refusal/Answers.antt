@@ -1,5 +1,4 @@
 -- `pocket::maps::disk_refusal` meets its contract. Assumes nothing.
-use borrow.Author.Rules.{rules}
 use Rattle.pocket.proofs.AskedLaws.{both_are, map_by_lem}
 use Rattle.pocket.proofs.maps.disk_refusal.Goals as goal
 

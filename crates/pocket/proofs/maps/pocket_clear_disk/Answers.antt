@@ -1,5 +1,4 @@
 -- `pocket::maps::pocket_clear_disk` meets its contract. Assumes nothing.
-use borrow.Author.Rules.{rules}
 use Rattle.pocket.specs.Answers.{of_count}
 use Rattle.pocket.proofs.LeafLaws.{told-map}
 use Rattle.pocket.proofs.maps.pocket_clear_disk.Goals as goal

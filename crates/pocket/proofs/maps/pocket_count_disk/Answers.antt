@@ -1,6 +1,5 @@
 -- `pocket::maps::pocket_count_disk` meets its contract. Assumes nothing.
 use mathlib.Core.Path.{ap, ◌∙◌}
-use borrow.Author.Rules.{rules}
 use Rattle.pocket.specs.Answers.{of_count}
 use Rattle.pocket.proofs.maps.pocket_count_disk.Goals as goal
 

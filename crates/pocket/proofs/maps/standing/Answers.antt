@@ -2,7 +2,6 @@
 use mathlib.Core.Path.{sym, ap, ◌∙◌}
 use Prim.Native.Nat.{◌*◌}
 use native.Mathlib.Omega.{arith}
-use borrow.Author.Rules.{rules}
 use Rattle.loops.specs.Cells.{ones}
 use Rattle.pocket.specs.declared.answers.Count.TheVariants.{Refused, Of}
 use Rattle.pocket.specs.Leaves.{standing_of}

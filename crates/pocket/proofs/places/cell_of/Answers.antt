@@ -1,6 +1,5 @@
 -- `pocket::places::cell_of` meets its contract. Assumes nothing.
 use mathlib.Core.Path.{sym, ap, ◌∙◌}
-use borrow.Author.Rules.{rules}
 use Rattle.pocket.specs.declared.answers.Cell.TheVariants.{Refused}
 use Rattle.pocket.specs.Leaves.{cell_answer, cell_at_of}
 use Rattle.pocket.proofs.AskedLaws.{cell-none}

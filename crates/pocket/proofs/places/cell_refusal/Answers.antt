@@ -1,7 +1,5 @@
 -- `pocket::places::cell_refusal` meets its contract. Assumes nothing.
 use mathlib.Core.Path.{refl}
-use borrow.Author.Tests.{not-true, not-false}
-use borrow.Author.Rules.{rules}
 use Rattle.pocket.specs.Refusals.{cell_refusal}
 use Rattle.pocket.proofs.AskedLaws.{both_are}
 use Rattle.pocket.proofs.LeafLaws.{when_yes, when_not}

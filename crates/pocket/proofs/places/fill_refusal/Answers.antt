@@ -1,6 +1,4 @@
 -- `pocket::places::fill_refusal` meets its contract. Assumes nothing.
-use borrow.Author.Tests.{not-true, not-false}
-use borrow.Author.Rules.{rules}
 use Rattle.pocket.specs.Refusals.{fill_refusal}
 use Rattle.pocket.proofs.AskedLaws.{both_are}
 use Rattle.pocket.proofs.LeafLaws.{when_yes, when_not}

@@ -1,6 +1,5 @@
 -- `pocket::places::pocket_cell_of` meets its contract. Assumes nothing.
 use mathlib.Core.Path.{ap, ◌∙◌}
-use borrow.Author.Rules.{rules}
 use Rattle.pocket.specs.Answers.{of_cell}
 use Rattle.pocket.proofs.places.pocket_cell_of.Goals as goal
 

@@ -1,5 +1,4 @@
 -- `pocket::places::pocket_fill_region` meets its contract. Assumes nothing.
-use borrow.Author.Rules.{rules}
 use Rattle.pocket.specs.Answers.{of_done}
 use Rattle.pocket.proofs.LeafLaws.{told-map}
 use Rattle.pocket.proofs.places.pocket_fill_region.Goals as goal

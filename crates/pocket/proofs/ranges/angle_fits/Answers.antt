@@ -1,5 +1,4 @@
 -- `pocket::ranges::angle_fits` meets its contract. Assumes nothing.
-use borrow.Author.Rules.{rules}
 use Rattle.pocket.proofs.ranges.angle_fits.Goals as goal
 
 pub returns : goal.returns

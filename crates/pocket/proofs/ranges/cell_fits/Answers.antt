@@ -1,5 +1,4 @@
 -- `pocket::ranges::cell_fits` meets its contract. Assumes nothing.
-use borrow.Author.Rules.{rules}
 use Rattle.pocket.proofs.ranges.cell_fits.Goals as goal
 
 pub returns : goal.returns

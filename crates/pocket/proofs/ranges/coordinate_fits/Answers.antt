@@ -1,6 +1,5 @@
 -- `pocket::ranges::coordinate_fits` meets its contract. Assumes nothing.
 use mathlib.Core.Path.{refl}
-use borrow.Author.Rules.{rules}
 use Rattle.pocket.specs.Ranges.{coordinate_fit}
 use Rattle.pocket.proofs.ranges.coordinate_fits.Goals as goal
 

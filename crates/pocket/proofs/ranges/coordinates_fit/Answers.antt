@@ -2,10 +2,8 @@
 use mathlib.Core.Path.{sym, ap, ◌∙◌}
 use mathlib.Core.Bool.{false, not}
 use Prim.Native.Nat.{◌-◌}
-use borrow.Author.Rules.{rules}
-use Rattle.loops.specs.Loop.{or_at}
-use Rattle.loops.proofs.LoopLaws.{Going, going_none, any-on, any_out, any_none}
-use Rattle.pocket.specs.Ranges.{strayed, coordinates_fit}
+use Rattle.loops.proofs.LoopLaws.{going_none, any-on, any_out, any_none}
+use Rattle.pocket.specs.Ranges.{coordinates_fit}
 use Rattle.pocket.proofs.ranges.coordinates_fit.Goals as goal
 
 pub loop-k-init : goal.loop-k-init

@@ -1,5 +1,4 @@
 -- `pocket::ranges::disk_fits` meets its contract. Assumes nothing.
-use borrow.Author.Rules.{rules}
 use Rattle.pocket.specs.Ranges.{disk_fit}
 use Rattle.pocket.proofs.AskedLaws.{both_are}
 use Rattle.pocket.proofs.ranges.disk_fits.Goals as goal

@@ -1,5 +1,4 @@
 -- `pocket::ranges::grid_fits` meets its contract. Assumes nothing.
-use borrow.Author.Rules.{rules}
 use Rattle.pocket.specs.Ranges.{grid_fit}
 use Rattle.pocket.proofs.AskedLaws.{both_are}
 use Rattle.pocket.proofs.ranges.grid_fits.Goals as goal

@@ -1,6 +1,5 @@
 -- `pocket::ranges::is_in_range` meets its contract. Assumes nothing.
 use mathlib.Core.Path.{refl}
-use borrow.Author.Rules.{rules}
 use Rattle.pocket.specs.Ranges.{in_range}
 use Rattle.pocket.proofs.ranges.is_in_range.Goals as goal
 

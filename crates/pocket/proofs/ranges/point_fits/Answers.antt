@@ -1,5 +1,4 @@
 -- `pocket::ranges::point_fits` meets its contract. Assumes nothing.
-use borrow.Author.Rules.{rules}
 use Rattle.pocket.specs.Ranges.{point_fit}
 use Rattle.pocket.proofs.AskedLaws.{both_are}
 use Rattle.pocket.proofs.ranges.point_fits.Goals as goal

@@ -1,5 +1,4 @@
 -- `pocket::ranges::radius_fits` meets its contract. Assumes nothing.
-use borrow.Author.Rules.{rules}
 use Rattle.pocket.proofs.ranges.radius_fits.Goals as goal
 
 pub returns : goal.returns

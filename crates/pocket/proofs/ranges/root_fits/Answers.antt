@@ -1,6 +1,5 @@
 -- `pocket::ranges::root_fits` meets its contract. Assumes nothing.
 use mathlib.Core.Path.{refl}
-use borrow.Author.Rules.{rules}
 use Rattle.pocket.specs.Ranges.{root_fit}
 use Rattle.pocket.proofs.ranges.root_fits.Goals as goal
 

@@ -1,6 +1,4 @@
 -- `pocket::refusals::map_refusal` meets its contract. Assumes nothing.
-use borrow.Author.Tests.{not-true, not-false}
-use borrow.Author.Rules.{rules}
 use Rattle.pocket.proofs.AskedLaws.{map_odd, map-rest}
 use Rattle.pocket.proofs.refusals.map_refusal.Goals as goal
 

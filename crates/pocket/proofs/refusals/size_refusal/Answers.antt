@@ -1,8 +1,6 @@
 -- `pocket::refusals::size_refusal` meets its contract. Assumes nothing.
 use mathlib.Core.Path.{sym, ◌∙◌}
 use native.Mathlib.Omega.{arith}
-use borrow.Author.Tests.{not-true, not-false}
-use borrow.Author.Rules.{rules}
 use Rattle.pocket.proofs.AskedLaws.{sides-few, size_odd, size_short, size_fits}
 use Rattle.pocket.proofs.refusals.size_refusal.Goals as goal
 

@@ -1,6 +1,5 @@
 -- `pocket::rim::contact` meets its contract. Assumes nothing.
 use mathlib.Core.Path.{refl, sym, ap, ◌∙◌}
-use borrow.Author.Rules.{rules}
 use Rattle.pocket.specs.declared.answers.Rim.TheVariants.{Refused, Of}
 use Rattle.raster.proofs.ContactLaws.{rim-same}
 use Rattle.pocket.specs.Leaves.{contact_of}

@@ -1,6 +1,5 @@
 -- `pocket::rim::contact_angle` meets its contract. Assumes nothing.
 use mathlib.Core.Path.{ap}
-use borrow.Author.Rules.{rules}
 use Rattle.pocket.specs.declared.answers.Number.TheVariants.{Of}
 use Rattle.pocket.specs.Leaves.{contact_angle_of}
 use Rattle.pocket.proofs.LeafLaws.{when_yes, when_not}

@@ -1,6 +1,5 @@
 -- `pocket::rim::pocket_contact` meets its contract. Assumes nothing.
 use mathlib.Core.Path.{ap, ◌∙◌}
-use borrow.Author.Rules.{rules}
 use Rattle.pocket.specs.Answers.{of_rim}
 use Rattle.pocket.proofs.rim.pocket_contact.Goals as goal
 

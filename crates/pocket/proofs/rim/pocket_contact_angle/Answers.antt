@@ -1,6 +1,5 @@
 -- `pocket::rim::pocket_contact_angle` meets its contract. Assumes nothing.
 use mathlib.Core.Path.{ap, ◌∙◌}
-use borrow.Author.Rules.{rules}
 use Rattle.pocket.specs.Answers.{of_number}
 use Rattle.pocket.proofs.rim.pocket_contact_angle.Goals as goal
 

@@ -1,6 +1,5 @@
 -- `pocket::values::narrow` meets its contract. Assumes nothing.
 use mathlib.Core.Path.{ap}
-use borrow.Author.Rules.{rules}
 use Rattle.pocket.specs.declared.answers.Single.TheVariants.{Of}
 use Rattle.pocket.specs.Leaves.{narrowed_of}
 use Rattle.pocket.proofs.LeafLaws.{when_yes, when_not}

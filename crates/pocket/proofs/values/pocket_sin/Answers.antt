@@ -1,6 +1,5 @@
 -- `pocket::values::pocket_sin` meets its contract. Assumes nothing.
 use mathlib.Core.Path.{ap, ◌∙◌}
-use borrow.Author.Rules.{rules}
 use Rattle.pocket.specs.Answers.{of_number}
 use Rattle.pocket.proofs.values.pocket_sin.Goals as goal
 

@@ -1,6 +1,5 @@
 -- `pocket::values::pocket_wanted` meets its contract. Assumes nothing.
 use mathlib.Core.Path.{ap, ◌∙◌}
-use borrow.Author.Rules.{rules}
 use Rattle.pocket.specs.Answers.{of_count}
 use Rattle.pocket.proofs.values.pocket_wanted.Goals as goal
 

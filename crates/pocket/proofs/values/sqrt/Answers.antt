@@ -1,6 +1,5 @@
 -- `pocket::values::sqrt` meets its contract. Assumes nothing.
 use mathlib.Core.Path.{ap}
-use borrow.Author.Rules.{rules}
 use Rattle.pocket.specs.declared.answers.Number.TheVariants.{Of}
 use Rattle.pocket.specs.Leaves.{sqrt_of}
 use Rattle.pocket.proofs.LeafLaws.{when_yes, when_not}

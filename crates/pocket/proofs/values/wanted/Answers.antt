@@ -1,6 +1,5 @@
 -- `pocket::values::wanted` meets its contract. Assumes nothing.
 use mathlib.Core.Path.{ap}
-use borrow.Author.Rules.{rules}
 use Rattle.pocket.specs.declared.answers.Count.TheVariants.{Of}
 use Rattle.pocket.specs.Leaves.{wanted_cells_of}
 use Rattle.pocket.proofs.AskedLaws.{both_are}

@@ -1,6 +1,5 @@
 -- `report::clear::clear` meets its contract. Assumes nothing.
 use Rattle.report.proofs.ZeroLaws.{cleared-is}
-use borrow.Author.Rules.{rules}
 use Rattle.report.proofs.clear.clear.Goals as goal
 
 pub returns : goal.returns

@@ -1,5 +1,4 @@
 -- `report::clear::clear_workspace` meets its contract. Assumes nothing.
-use borrow.Author.Rules.{rules}
 use Rattle.report.proofs.clear.clear_workspace.Goals as goal
 
 pub returns : goal.returns

@@ -1,6 +1,5 @@
 -- `report::kinds::add_kind` meets its contract. Assumes nothing.
 use mathlib.Core.Path.{refl}
-use borrow.Author.Rules.{rules}
 use Rattle.report.proofs.kinds.add_kind.Goals as goal
 
 pub returns-in-Helix : goal.returns-in-Helix

@@ -2,9 +2,9 @@
 use mathlib.Core.Path.{ap, ◌∙◌}
 use Prim.Native.Nat.{◌-◌}
 use native.Mathlib.Omega.{arith}
-use Rattle.loops.proofs.LoopLaws.{Going, going_none, going_more, going_end}
+use Rattle.loops.proofs.LoopLaws.{going_none, going_more, going_end}
 use Rattle.events.specs.declared.list.Read.{Read}
-use Rattle.report.specs.Kinds.{counting, kinds, count_row, kinds_of}
+use Rattle.report.specs.Kinds.{counting, kinds_of}
 use Rattle.report.proofs.KindLaws.{going_few}
 use Rattle.report.proofs.kinds.count_kinds.Goals as goal
 

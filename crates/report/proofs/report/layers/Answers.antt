@@ -1,5 +1,4 @@
 -- `report::report::layers` meets its contract. Assumes nothing.
-use borrow.Author.Rules.{rules}
 use Rattle.report.proofs.ReportLaws.{layers_is}
 use Rattle.report.proofs.report.layers.Goals as goal
 

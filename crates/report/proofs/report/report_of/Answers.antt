@@ -1,5 +1,4 @@
 -- `report::report::report_of` meets its contract. Assumes nothing.
-use borrow.Author.Rules.{rules}
 use Rattle.report.proofs.ReportLaws.{report_is}
 use Rattle.report.proofs.report.report_of.Goals as goal
 

@@ -1,5 +1,4 @@
 -- `report::standing::add_cell` meets its contract. Assumes nothing.
-use borrow.Author.Rules.{rules}
 use Rattle.report.proofs.StandingLaws.{counted_none, counted-reach, counted_not}
 use Rattle.report.proofs.standing.add_cell.Goals as goal
 

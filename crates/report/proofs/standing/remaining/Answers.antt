@@ -1,9 +1,8 @@
 -- `report::standing::remaining` meets its contract. Assumes nothing.
 use Prim.Native.Nat.{◌-◌}
 use native.Mathlib.Omega.{arith}
-use lib.ListN.{length}
-use Rattle.loops.proofs.LoopLaws.{Going, going_none, going_more, going_end}
-use Rattle.report.specs.Report.{rem, remain_at, remaining_of}
+use Rattle.loops.proofs.LoopLaws.{going_none, going_more, going_end}
+use Rattle.report.specs.Report.{remaining_of}
 use Rattle.report.proofs.StandingLaws.{going_few}
 use Rattle.report.proofs.standing.remaining.Goals as goal
 

@@ -1,10 +1,8 @@
 -- `report::standing::remaining` meets its contract. Assumes nothing.
 use Prim.Native.Nat.{◌-◌}
-use native.Mathlib.Omega.{arith}
 use lib.ListN.{length}
-use Rattle.loops.proofs.LoopLaws.{Going, going_none, going_more, going_end}
-use Rattle.report.specs.Report.{rem, remain_at, remaining_of}
-use Rattle.report.proofs.StandingLaws.{going_few}
+use Rattle.loops.proofs.LoopLaws.{Going}
+use Rattle.report.specs.Report.{rem, remain_at}
 use Rattle.report.proofs.standing.remaining.Given as goal
 
 abbrev pub invariant-loop-k : goal.invariant-loop-k

@@ -1,5 +1,4 @@
 -- `report::zero::zero_doubles` meets its contract. Assumes nothing.
-use borrow.Author.Rules.{rules}
 use Rattle.geom.specs.Vec.{f0}
 use Rattle.report.proofs.ZeroLaws.{blank-is}
 use Rattle.report.proofs.zero.zero_doubles.Goals as goal

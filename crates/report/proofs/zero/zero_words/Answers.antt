@@ -1,5 +1,4 @@
 -- `report::zero::zero_words` meets its contract. Assumes nothing.
-use borrow.Author.Rules.{rules}
 use Rattle.report.proofs.ZeroLaws.{blank-is}
 use Rattle.report.proofs.zero.zero_words.Goals as goal
 

@@ -1,6 +1,5 @@
 -- `rounds::next::comes_before` meets its contract. Assumes nothing.
 use Rattle.rounds.proofs.NextLaws.{before-yes, before-no, before_level}
-use borrow.Author.Rules.{rules}
 use Rattle.rounds.proofs.next.comes_before.Goals as goal
 
 pub returns-then-is_nearer : goal.returns-then-is_nearer

@@ -1,6 +1,5 @@
 -- `rounds::next::far` meets its contract. Assumes nothing.
 use Rattle.rounds.proofs.NextLaws.{far-closed, far_open}
-use borrow.Author.Rules.{rules}
 use Rattle.rounds.proofs.next.far.Goals as goal
 
 pub returns-then-r : goal.returns-then-r

@@ -2,7 +2,6 @@
 use mathlib.Core.Path.{refl}
 use Rattle.rounds.specs.Next.{here_of}
 use Rattle.rounds.proofs.NextLaws.{here-at}
-use borrow.Author.Rules.{rules}
 use Rattle.rounds.proofs.next.here.Goals as goal
 
 pub returns-in-At : goal.returns-in-At

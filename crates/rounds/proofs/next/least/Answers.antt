@@ -1,9 +1,7 @@
 -- `rounds::next::least` meets its contract. Assumes nothing.
 use Prim.Native.Nat.{◌-◌}
-use native.Mathlib.Omega.{arith}
 use lib.Ieee.{of_bits, nan_bits}
-use Rattle.rounds.proofs.NextLaws.{Closest, closest_none, closest_more, closest_end}
-use borrow.Author.Rules.{rules}
+use Rattle.rounds.proofs.NextLaws.{closest_none, closest_more, closest_end}
 use Rattle.rounds.proofs.next.least.Goals as goal
 
 pub float_from_bits-so : goal.float_from_bits-so

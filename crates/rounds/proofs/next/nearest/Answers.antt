@@ -1,9 +1,7 @@
 -- `rounds::next::nearest` meets its contract. Assumes nothing.
-use mathlib.Core.Logic.{⊎_elim}
 use Prim.Native.Nat.{◌-◌}
 use native.Mathlib.Omega.{arith}
-use Rattle.rounds.proofs.NextLaws.{Foremost, next-first, next_new, next-on, next-end}
-use borrow.Author.Rules.{rules}
+use Rattle.rounds.proofs.NextLaws.{next-first, next_new, next-on, next-end}
 use Rattle.rounds.proofs.next.nearest.Goals as goal
 use Rattle.rounds.proofs.next.nearest.Goals.{else-comes_before, then-comes_before}
 

@@ -1,7 +1,6 @@
 -- `rounds::round::after` meets its contract. Assumes nothing.
 use mathlib.Core.Path.{refl}
 use Rattle.rounds.specs.Round.{answer_after}
-use borrow.Author.Rules.{rules}
 use Rattle.rounds.proofs.round.after.Goals as goal
 
 pub returns-in-Nothing : goal.returns-in-Nothing

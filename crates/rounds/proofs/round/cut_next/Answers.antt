@@ -1,6 +1,5 @@
 -- `rounds::round::cut_next` meets its contract. Assumes nothing.
 use Rattle.rounds.proofs.RoundLaws.{cut_asks, cut-next-is}
-use borrow.Author.Rules.{rules}
 use Rattle.rounds.proofs.round.cut_next.Goals as goal
 
 pub cut_piece-c-requires : goal.cut_piece-c-requires

@@ -1,10 +1,8 @@
 -- `rounds::round::cut_pieces` meets its contract. Assumes nothing.
 use Prim.Native.Nat.{◌-◌}
 use native.Mathlib.Omega.{arith}
-use Rattle.rounds.specs.Next.{swap_remove}
-use Rattle.rounds.specs.Round.{nearest_first, cut_pieces_of}
-use Rattle.rounds.proofs.RoundLaws.{Cutting, nearest-none, words-ask, nearest-taken, next_asks, cutting_stops, cutting_more, cutting_ends}
-use borrow.Author.Rules.{rules}
+use Rattle.rounds.specs.Round.{cut_pieces_of}
+use Rattle.rounds.proofs.RoundLaws.{nearest-none, words-ask, nearest-taken, next_asks, cutting_stops, cutting_more, cutting_ends}
 use Rattle.rounds.proofs.round.cut_pieces.Goals as goal
 
 pub loop-i-init : goal.loop-i-init

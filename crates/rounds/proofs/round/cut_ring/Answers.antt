@@ -2,8 +2,7 @@
 use Prim.Native.Nat.{◌-◌}
 use native.Mathlib.Omega.{arith}
 use Rattle.rounds.specs.Round.{in_order, all_stay, cut_ring_of}
-use Rattle.rounds.proofs.RoundLaws.{Cutting, cutting_none, words-ask, ring_taken, next_asks, cutting_stops, cutting_more, cutting_ends}
-use borrow.Author.Rules.{rules}
+use Rattle.rounds.proofs.RoundLaws.{cutting_none, words-ask, ring_taken, next_asks, cutting_stops, cutting_more, cutting_ends}
 use Rattle.rounds.proofs.round.cut_ring.Goals as goal
 
 pub loop-i-init : goal.loop-i-init

@@ -1,9 +1,7 @@
 -- `rounds::round::cut_ring` meets its contract. Assumes nothing.
 use Prim.Native.Nat.{◌-◌}
-use native.Mathlib.Omega.{arith}
-use Rattle.rounds.specs.Round.{in_order, all_stay, cut_ring_of}
-use Rattle.rounds.proofs.RoundLaws.{Cutting, cutting_none, words-ask, ring_taken, next_asks, cutting_stops, cutting_more, cutting_ends}
-use borrow.Author.Rules.{rules}
+use Rattle.rounds.specs.Round.{in_order, all_stay}
+use Rattle.rounds.proofs.RoundLaws.{Cutting}
 use Rattle.rounds.proofs.round.cut_ring.Given as goal
 
 abbrev pub invariant-loop-i : goal.invariant-loop-i

@@ -1,6 +1,5 @@
 -- `rounds::rows::next` meets its contract. Assumes nothing.
 use Rattle.rounds.proofs.RowsLaws.{lent_readable, lent-next}
-use borrow.Author.Rules.{rules}
 use Rattle.rounds.proofs.rows.next.Goals as goal
 
 pub nearest-requires : goal.nearest-requires

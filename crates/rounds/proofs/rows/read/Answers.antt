@@ -1,6 +1,5 @@
 -- `rounds::rows::read` meets its contract. Assumes nothing.
 use Rattle.rounds.proofs.RowsLaws.{read_is}
-use borrow.Author.Rules.{rules}
 use Rattle.rounds.proofs.rows.read.Goals as goal
 
 pub returns : goal.returns

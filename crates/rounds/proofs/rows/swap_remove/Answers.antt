@@ -2,7 +2,6 @@
 use mathlib.Core.Path.{ap, ◌∙◌}
 use Rattle.pieces.specs.Piece.{put_row}
 use Rattle.pieces.specs.declared.row.Row.{Row}
-use borrow.Author.Rules.{rules}
 use Rattle.rounds.proofs.rows.swap_remove.Goals as goal
 
 pub returns : goal.returns

@@ -2,7 +2,6 @@
 use mathlib.Core.Path.{ap, ◌∙◌}
 use lib.ListN.{length}
 use Rattle.rounds.proofs.RowsLaws.{swap_asks, take-is, take_long}
-use borrow.Author.Rules.{rules}
 use Rattle.rounds.proofs.rows.take_nearest.Goals as goal
 
 pub swap_remove-requires : goal.swap_remove-requires

@@ -3,14 +3,13 @@ use mathlib.Core.Path.{◌≡◌, sym, ap, subst}
 use Prim.Native.Nat.{◌+◌, ◌-◌}
 use native.Mathlib.Omega.{arith}
 use lib.ListN.{set, get_or}
-use borrow.Author.Rules.{rules}
 use Rattle.loops.specs.Frame.{Only}
 use Rattle.loops.proofs.Cases.{never}
-use Rattle.loops.proofs.LoopLaws.{Going, going_none, going_more, going_end}
+use Rattle.loops.proofs.LoopLaws.{going_none, going_more, going_end}
 use Rattle.setup.specs.Layout.{run}
 use Rattle.start.specs.Blocks.{Told}
-use Rattle.start.proofs.WriteLaws.{write_from, going_only, read-run}
-use Rattle.start.proofs.ReachLaws.{may_with, may_is, allowed-is}
+use Rattle.start.proofs.WriteLaws.{going_only, read-run}
+use Rattle.start.proofs.ReachLaws.{may_is, allowed-is}
 use Rattle.start.proofs.BlockLaws.{told-next, known_is}
 use Rattle.start.proofs.allowed.fill_allowed.Goals as goal
 use Rattle.start.proofs.allowed.fill_allowed.Goals.{At-loop-k, In-loop-k}

@@ -1,6 +1,5 @@
 -- `start::allowed::is_clear` meets its contract. Assumes nothing.
 use mathlib.Core.Path.{refl}
-use borrow.Author.Rules.{rules}
 use Rattle.start.proofs.ReachLaws.{center_is, clear_apart, clear_asked}
 use Rattle.start.proofs.allowed.is_clear.Goals as goal
 

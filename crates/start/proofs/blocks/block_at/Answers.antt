@@ -2,7 +2,6 @@
 use native.Mathlib.Omega.{arith}
 use native.Mathlib.Nat.{mod-lt}
 use Rattle.start.proofs.BlockLaws.{told_is}
-use borrow.Author.Rules.{rules}
 use Rattle.start.proofs.blocks.block_at.Goals as goal
 
 pub more_from-more-requires : goal.more_from-more-requires

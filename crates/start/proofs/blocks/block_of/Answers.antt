@@ -1,6 +1,5 @@
 -- `start::blocks::block_of` meets its contract. Assumes nothing.
 use Rattle.loops.proofs.Cases.{never}
-use borrow.Author.Rules.{rules}
 use Rattle.start.proofs.blocks.block_of.Goals as goal
 
 pub block_at-requires : goal.block_at-requires

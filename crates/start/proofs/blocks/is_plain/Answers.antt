@@ -1,7 +1,6 @@
 -- `start::blocks::is_plain` meets its contract. Assumes nothing.
 use mathlib.Core.Path.{sym, ◌∙◌}
 use Rattle.loops.proofs.Cases.{both}
-use borrow.Author.Rules.{rules}
 use Rattle.start.proofs.blocks.is_plain.Goals as goal
 
 pub returns : goal.returns

@@ -1,7 +1,6 @@
 -- `start::reach::fill_reach` meets its contract. Assumes nothing.
 use mathlib.Core.Path.{refl}
 use native.Mathlib.Omega.{arith}
-use borrow.Author.Rules.{rules}
 use Rattle.distance.proofs.NearestLaws.{transform_long}
 use Rattle.setup.proofs.PartLaws.{part_long}
 use Rattle.start.proofs.ReachLaws.{reach-is, map-sides, squares-room}

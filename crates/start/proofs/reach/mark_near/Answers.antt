@@ -4,10 +4,8 @@ use Prim.Native.Nat.{◌+◌, ◌-◌}
 use native.Mathlib.Omega.{arith}
 use lib.ListN.{set}
 use Rattle.loops.specs.Frame.{Only}
-use Rattle.loops.proofs.LoopLaws.{Going, going_none, going_more, going_end}
-use Rattle.setup.specs.Layout.{run}
-use Rattle.start.specs.Steps.{near_at}
-use Rattle.start.proofs.WriteLaws.{write_from, going_only, run_written}
+use Rattle.loops.proofs.LoopLaws.{going_none, going_more, going_end}
+use Rattle.start.proofs.WriteLaws.{going_only, run_written}
 use Rattle.start.proofs.ReachLaws.{near-turn}
 use Rattle.start.proofs.reach.mark_near.Goals as goal
 use Rattle.start.proofs.reach.mark_near.Goals.{At-loop-k}

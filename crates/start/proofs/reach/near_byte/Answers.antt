@@ -1,7 +1,6 @@
 -- `start::reach::near_byte` meets its contract. Assumes nothing.
 use mathlib.Core.Path.{sym, ◌∙◌}
 use mathlib.Core.Bool.{true, false}
-use borrow.Author.Rules.{rules}
 use Rattle.start.proofs.ReachLaws.{near_none, near-is}
 use Rattle.start.proofs.reach.near_byte.Goals as goal
 

@@ -1,5 +1,4 @@
 -- `start::ready::make_ready` meets its contract. Assumes nothing.
-use borrow.Author.Rules.{rules}
 use Rattle.start.proofs.ready.make_ready.Goals as goal
 
 pub returns : goal.returns

@@ -1,5 +1,4 @@
 -- `start::ready::setup_of` meets its contract. Assumes nothing.
-use borrow.Author.Rules.{rules}
 use Rattle.start.proofs.ready.setup_of.Goals as goal
 
 pub returns : goal.returns

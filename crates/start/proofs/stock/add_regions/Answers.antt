@@ -1,22 +1,18 @@
 -- `start::stock::add_regions` meets its contract. Assumes nothing.
 use mathlib.Core.Path.{◌≡◌, refl, ap, ◌∙◌}
-use Prim.Native.Nat.{◌-◌, ℕ}
+use Prim.Native.Nat.{◌-◌}
 use native.Mathlib.Omega.{arith}
 use lib.ListN.{length}
-use mathlib.Core.List.{List}
-use lib.Ieee.{Float}
-use Rattle.loops.proofs.LoopLaws.{Going, going_none, going_more, going_end}
+use Rattle.loops.proofs.LoopLaws.{going_none, going_more, going_end}
 use Rattle.geom.proofs.RegionLaws.{region}
 use Rattle.filling.specs.Fill.{fill_region}
 use Rattle.geom.specs.declared.region.Region.{Region}
-use Rattle.raster.specs.declared.grid.Grid.{Grid}
 use Rattle.entry.specs.Regions.{region_at}
 use Rattle.start.specs.Start.{add_region, add_regions}
 use Rattle.entry.proofs.RegionsLaws.{region-is, next-at, next-first, second_first, held-is}
 use Rattle.start.proofs.StockLaws.{adding_long}
 use Rattle.start.proofs.stock.add_regions.Goals as goal
 use Rattle.start.proofs.stock.add_regions.Goals.{After-size-loops, At-loop-k}
-use Rattle.start.proofs.stock.add_regions.Invariants.{Adding}
 
 map-long : (c : At-loop-k) → length c.loop-k.map ≡ length c.args.map.now
 map-long c = let s = c.args in ap length c.loop-k.invariant.going.is ∙ adding_long s.g s.vs.now s.lens.now s.regions.now 1 c.loop-k.k s.map.now

@@ -1,19 +1,13 @@
 -- `start::stock::add_regions` meets its contract. Assumes nothing.
-use mathlib.Core.Path.{◌≡◌, refl, ap, ◌∙◌}
+use mathlib.Core.Path.{◌≡◌}
 use Prim.Native.Nat.{◌-◌, ℕ}
-use native.Mathlib.Omega.{arith}
 use lib.ListN.{length}
 use mathlib.Core.List.{List}
 use lib.Ieee.{Float}
-use Rattle.loops.proofs.LoopLaws.{Going, going_none, going_more, going_end}
-use Rattle.geom.proofs.RegionLaws.{region}
-use Rattle.filling.specs.Fill.{fill_region}
-use Rattle.geom.specs.declared.region.Region.{Region}
+use Rattle.loops.proofs.LoopLaws.{Going}
 use Rattle.raster.specs.declared.grid.Grid.{Grid}
 use Rattle.entry.specs.Regions.{region_at}
-use Rattle.start.specs.Start.{add_region, add_regions}
-use Rattle.entry.proofs.RegionsLaws.{region-is, next-at, next-first, second_first, held-is}
-use Rattle.start.proofs.StockLaws.{adding_long}
+use Rattle.start.specs.Start.{add_region}
 use Rattle.start.proofs.stock.add_regions.Given as goal
 
 -- the map is what the regions before k leave, and the next region's vertices and loops start where theirs end

@@ -1,6 +1,5 @@
 -- `start::stock::clear_abandoned` meets its contract. Assumes nothing.
 use native.Mathlib.Omega.{arith}
-use borrow.Author.Rules.{rules}
 use Rattle.start.proofs.WriteLaws.{zeroed_is}
 use Rattle.start.proofs.stock.clear_abandoned.Goals as goal
 

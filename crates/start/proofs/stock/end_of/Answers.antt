@@ -2,9 +2,9 @@
 use mathlib.Core.Path.{◌≡◌, ap}
 use Prim.Native.Nat.{◌+◌, ◌-◌}
 use native.Mathlib.Omega.{arith}
-use Rattle.loops.proofs.LoopLaws.{Going, going_none, going_more, going_end}
-use Rattle.geom.specs.Region.{size_of, start_of}
-use Rattle.geom.proofs.RegionLaws.{region, loop-within}
+use Rattle.loops.proofs.LoopLaws.{going_none, going_more, going_end}
+use Rattle.geom.specs.Region.{start_of}
+use Rattle.geom.proofs.RegionLaws.{loop-within}
 use Rattle.start.proofs.stock.end_of.Goals as goal
 use Rattle.start.proofs.stock.end_of.Goals.{At-loop-l}
 

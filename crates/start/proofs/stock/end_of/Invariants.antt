@@ -1,10 +1,8 @@
 -- `start::stock::end_of` meets its contract. Assumes nothing.
-use mathlib.Core.Path.{◌≡◌, ap}
 use Prim.Native.Nat.{◌+◌, ◌-◌}
-use native.Mathlib.Omega.{arith}
-use Rattle.loops.proofs.LoopLaws.{Going, going_none, going_more, going_end}
-use Rattle.geom.specs.Region.{size_of, start_of}
-use Rattle.geom.proofs.RegionLaws.{region, loop-within}
+use Rattle.loops.proofs.LoopLaws.{Going}
+use Rattle.geom.specs.Region.{size_of}
+use Rattle.geom.proofs.RegionLaws.{region}
 use Rattle.start.proofs.stock.end_of.Given as goal
 
 abbrev pub invariant-loop-l : goal.invariant-loop-l

@@ -1,6 +1,5 @@
 -- `start::stock::fill_inside` meets its contract. Assumes nothing.
 use native.Mathlib.Omega.{arith}
-use borrow.Author.Rules.{rules}
 use Rattle.filling.specs.Fill.{fill_region}
 use Rattle.start.proofs.WriteLaws.{lent-put}
 use Rattle.start.proofs.stock.fill_inside.Goals as goal

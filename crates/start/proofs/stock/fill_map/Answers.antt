@@ -1,12 +1,9 @@
 -- `start::stock::fill_map` meets its contract. Assumes nothing.
 use Prim.Native.Nat.{◌+◌, ◌-◌}
 use native.Mathlib.Omega.{arith}
-use borrow.Author.Rules.{rules}
 use Rattle.loops.specs.Frame.{Only}
-use Rattle.loops.proofs.LoopLaws.{Going, going_none, going_more, going_end}
-use Rattle.setup.specs.Layout.{run}
-use Rattle.start.specs.Steps.{stock_at}
-use Rattle.start.proofs.WriteLaws.{write_from, going_only, run_written}
+use Rattle.loops.proofs.LoopLaws.{going_none, going_more, going_end}
+use Rattle.start.proofs.WriteLaws.{going_only, run_written}
 use Rattle.start.proofs.StockLaws.{map-turn}
 use Rattle.start.proofs.stock.fill_map.Goals as goal
 use Rattle.start.proofs.stock.fill_map.Goals.{At-loop-k}

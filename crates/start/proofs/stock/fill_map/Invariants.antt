@@ -1,13 +1,9 @@
 -- `start::stock::fill_map` meets its contract. Assumes nothing.
-use Prim.Native.Nat.{◌+◌, ◌-◌}
-use native.Mathlib.Omega.{arith}
-use borrow.Author.Rules.{rules}
-use Rattle.loops.specs.Frame.{Only}
-use Rattle.loops.proofs.LoopLaws.{Going, going_none, going_more, going_end}
+use Prim.Native.Nat.{◌-◌}
+use Rattle.loops.proofs.LoopLaws.{Going}
 use Rattle.setup.specs.Layout.{run}
 use Rattle.start.specs.Steps.{stock_at}
-use Rattle.start.proofs.WriteLaws.{write_from, going_only, run_written}
-use Rattle.start.proofs.StockLaws.{map-turn}
+use Rattle.start.proofs.WriteLaws.{write_from}
 use Rattle.start.proofs.stock.fill_map.Given as goal
 
 abbrev pub invariant-loop-k : goal.invariant-loop-k

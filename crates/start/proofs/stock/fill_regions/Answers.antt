@@ -1,6 +1,5 @@
 -- `start::stock::fill_regions` meets its contract. Assumes nothing.
 use native.Mathlib.Omega.{arith}
-use borrow.Author.Rules.{rules}
 use Rattle.entry.proofs.RegionsLaws.{held-is}
 use Rattle.start.proofs.StockLaws.{filled-whole, filled_list}
 use Rattle.start.proofs.stock.fill_regions.Goals as goal

@@ -2,7 +2,6 @@
 use mathlib.Core.Path.{refl}
 use Prim.Native.Nat.{◌+◌}
 use native.Mathlib.Omega.{arith}
-use borrow.Author.Rules.{rules}
 use Rattle.setup.proofs.PartLaws.{part_long}
 use Rattle.loops.proofs.RegionLaws.{region-long}
 use Rattle.start.specs.Start.{add_regions}

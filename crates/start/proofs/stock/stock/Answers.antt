@@ -1,6 +1,5 @@
 -- `start::stock::stock` meets its contract. Assumes nothing.
 use native.Mathlib.Omega.{arith}
-use borrow.Author.Rules.{rules}
 use Rattle.start.proofs.StockLaws.{stocked_is}
 use Rattle.start.proofs.stock.stock.Goals as goal
 

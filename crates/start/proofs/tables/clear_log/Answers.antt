@@ -1,5 +1,4 @@
 -- `start::tables::clear_log` meets its contract. Assumes nothing.
-use borrow.Author.Rules.{rules}
 use Rattle.start.proofs.StartLaws.{log_is}
 use Rattle.start.proofs.tables.clear_log.Goals as goal
 

@@ -1,6 +1,5 @@
 -- `start::tables::tables` meets its contract. Assumes nothing.
 use Rattle.start.proofs.StartLaws.{tabled_is}
-use borrow.Author.Rules.{rules}
 use Rattle.start.proofs.tables.tables.Goals as goal
 
 pub returns : goal.returns

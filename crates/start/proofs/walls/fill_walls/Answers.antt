@@ -1,7 +1,6 @@
 -- `start::walls::fill_walls` meets its contract. Assumes nothing.
 use mathlib.Core.Path.{refl}
 use native.Mathlib.Omega.{arith}
-use borrow.Author.Rules.{rules}
 use Rattle.setup.proofs.PartLaws.{part_long}
 use Rattle.start.proofs.ReachLaws.{walls_are, map-sides, squares-room}
 use Rattle.start.proofs.walls.fill_walls.Goals as goal

@@ -4,9 +4,8 @@ use Prim.Native.Nat.{◌-◌}
 use native.Mathlib.Omega.{arith}
 use lib.ListN.{length, set}
 use lib.Ieee.{nan, binary64, mul}
-use borrow.Author.Rules.{rules}
-use Rattle.loops.proofs.LoopLaws.{Going, going_none, going_more, going_end}
-use Rattle.field.proofs.RoundLaws.{write_at, written_long, written_all}
+use Rattle.loops.proofs.LoopLaws.{going_none, going_more, going_end}
+use Rattle.field.proofs.RoundLaws.{written_long, written_all}
 use Rattle.start.specs.Steps.{length_at}
 use Rattle.start.proofs.walls.lengths.Goals as goal
 use Rattle.start.proofs.walls.lengths.Goals.{At-loop-k}

@@ -1,12 +1,9 @@
 -- `start::walls::lengths` meets its contract. Assumes nothing.
-use mathlib.Core.Path.{◌≡◌, ap, ◌∙◌}
 use Prim.Native.Nat.{◌-◌}
-use native.Mathlib.Omega.{arith}
-use lib.ListN.{length, set}
-use lib.Ieee.{nan, binary64, mul}
-use borrow.Author.Rules.{rules}
-use Rattle.loops.proofs.LoopLaws.{Going, going_none, going_more, going_end}
-use Rattle.field.proofs.RoundLaws.{write_at, written_long, written_all}
+use lib.ListN.{length}
+use lib.Ieee.{nan}
+use Rattle.loops.proofs.LoopLaws.{Going}
+use Rattle.field.proofs.RoundLaws.{write_at}
 use Rattle.start.specs.Steps.{length_at}
 use Rattle.start.proofs.walls.lengths.Given as goal
 
