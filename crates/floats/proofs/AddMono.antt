@@ -122,18 +122,22 @@ to_finite f (fin s m e) (inf false) t n d h p q = under_top (add f (fin s m e) (
 to_finite f (fin s m e) (fin s' m' e') t n d h p q = add_finite f s m e s' m' e' t n d h
 
 module _ (f : Format) where
+  -- the law, for those below: a mistake in what `add_mono` says is refused there, and hides none of them
+  add_grows : (x y z : Float) → le x y ≡ true → is_nan (add f x z) ≡ false → is_nan (add f y z) ≡ false → le (add f x z) (add f y z) ≡ true
+  add_grows x y nan h p q = no_nan (subst (λ (v : Float). is_nan v ≡ false) (add_none f x) p)
+  add_grows x y (inf t) h p q = rw (add_inf f x t p, add_inf f y t q) (le_refl (inf t) (number_inf t))
+  add_grows x y (fin t n d) h p q = to_finite f x y t n d h p q
+
   pub add_mono : (x y z : Float) → le x y ≡ true → is_nan (add f x z) ≡ false → is_nan (add f y z) ≡ false → le (add f x z) (add f y z) ≡ true
-  add_mono x y nan h p q = no_nan (subst (λ (v : Float). is_nan v ≡ false) (add_none f x) p)
-  add_mono x y (inf t) h p q = rw (add_inf f x t p, add_inf f y t q) (le_refl (inf t) (number_inf t))
-  add_mono x y (fin t n d) h p q = to_finite f x y t n d h p q
+  add_mono x y z h p q = add_grows x y z h p q
 
   pub add_mono_right : (z x y : Float) → le x y ≡ true → is_nan (add f z x) ≡ false → is_nan (add f z y) ≡ false → le (add f z x) (add f z y) ≡ true
   add_mono_right z x y h p q =
-      rw (add_swap f z x, add_swap f z y) (add_mono x y z h (subst (λ (v : Float). is_nan v ≡ false) (add_swap f z x) p) (subst (λ (v : Float). is_nan v ≡ false) (add_swap f z y) q))
+      rw (add_swap f z x, add_swap f z y) (add_grows x y z h (subst (λ (v : Float). is_nan v ≡ false) (add_swap f z x) p) (subst (λ (v : Float). is_nan v ≡ false) (add_swap f z y) q))
 
   pub sub_mono : (x y z : Float) → le x y ≡ true → is_nan (sub f x z) ≡ false → is_nan (sub f y z) ≡ false → le (sub f x z) (sub f y z) ≡ true
   unfolding sub
-  sub_mono x y z h p q = add_mono x y (neg z) h p q
+  sub_mono x y z h p q = add_grows x y (neg z) h p q
 
   pub sub_anti : (z x y : Float) → le x y ≡ true → is_nan (sub f z x) ≡ false → is_nan (sub f z y) ≡ false → le (sub f z y) (sub f z x) ≡ true
   unfolding sub

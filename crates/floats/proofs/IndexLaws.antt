@@ -56,7 +56,7 @@ module _ (f : Format) (w n : ℕ) (x : Float) (N : 0 < n) (P : n ≤ 2 ^ prec f)
   index_lt h = under w n x (of_int f (pos n)) (whole-value f n P) N h
 
   pub index_not_le : is_nan x ≡ false → le (of_int f (pos n)) x ≡ false → to_unsigned w x < n
-  index_not_le q h = index_lt (not_le_lt x (of_int f (pos n)) q (value-number (of_int f (pos n)) false n 1 (whole-value f n P)) h)
+  index_not_le q h = under w n x (of_int f (pos n)) (whole-value f n P) N (not_le_lt x (of_int f (pos n)) q (value-number (of_int f (pos n)) false n 1 (whole-value f n P)) h)
 
 -- ---- the cut keeps the order
 
