@@ -5,8 +5,8 @@ use std::sync::mpsc;
 use std::thread;
 use std::time::Duration;
 
-/// The program as `rt check bench` links it.
-const BENCH: &str = concat!(env!("CARGO_MANIFEST_DIR"), "/../../target/bin/bench");
+/// The program as `rt ci` and, in crates/bench, `rt run` build it.
+const BENCH: &str = concat!(env!("CARGO_MANIFEST_DIR"), "/../../crates/bench/out/bench");
 
 #[test]
 fn each_line_is_answered_when_it_has_been_read() {
@@ -14,7 +14,7 @@ fn each_line_is_answered_when_it_has_been_read() {
         .stdin(Stdio::piped())
         .stdout(Stdio::piped())
         .spawn()
-        .expect("target/bin/bench: run `rt check bench` first");
+        .expect("crates/bench/out/bench: run `rt run` in crates/bench first");
     let out = BufReader::new(bench.stdout.take().unwrap());
     let (send, answers) = mpsc::channel();
     let reader = thread::spawn(move || out.lines().for_each(|l| send.send(l.unwrap()).unwrap()));
