@@ -1,25 +1,27 @@
 -- What `cut_piece` requires holds of a Setup and a State made of their numbers, and what it answers is put down in parts. Assumes nothing.
+use Rattle.passes.specs.Start.{Place}
 use mathlib.Core.Path.{◌≡◌, refl, sym, ap, subst}
 use mathlib.Core.Bool.{Bool}
 use mathlib.Core.List.{List}
 use Prim.Native.Nat.{ℕ, ◌*◌}
 use lib.ListN.{set}
 use lib.Ieee.{Float}
-use Rattle.numbers.specs.Bound.{Bounds}
 use Rattle.numbers.specs.declared.bound.Bound.{Bound}
-use Rattle.numbers.specs.declared.bound.Bound.TheVariants.{Untold}
 use Rattle.geom.specs.declared.vec2.Vec2.{Vec2}
 use Rattle.geom.specs.declared.region.Region.{Region}
 use Rattle.raster.specs.declared.grid.Grid.{Grid}
 use Rattle.setup.specs.Layout.{run}
 use Rattle.setup.specs.declared.Setup.{Setup}
 use Rattle.links.specs.Path.{Fitted}
-use Rattle.passes.specs.declared.start.Place.{Place}
 use Rattle.cutting.specs.Tries.{Among}
 use Rattle.cutting.specs.Piece.{sta, Lends, Listed}
 use Rattle.cutting.specs.declared.piece.State.{State}
+use Rattle.std.specs.Prelude.{Result, Ok, Err}
+use Rattle.cutting.specs.Listing.{number_of}
+use Rattle.cutting.specs.declared.listing.Full.{Full}
 use Rattle.cutting.specs.declared.piece.Cut.{Cut}
-use Rattle.cutting.specs.declared.piece.Cut.TheVariants.{Nothing, Kept, Refused}
+use Rattle.cutting.specs.declared.piece.Cut.TheVariants.{Nothing, Kept}
+use Rattle.abi.specs.Setup.{loose}
 use Rattle.abi.specs.Passes.{passing}
 use Rattle.abi.specs.Cutting.{down_of, spot_of, kind_of, put_counts, put_floats, counts_of, floats_of, cells_of, CutIn, CutBy}
 
@@ -34,30 +36,30 @@ unfolding put_floats
 floats_put t l q e = ap (λ (k : Vec2). set (set (set l 0 k.x) 1 k.y) 2 t.planned_max) e
 
 -- the kind of an answer and its state's numbers
-abbrev Told : Cut → List ℕ → List Float → ℕ → List ℕ → List Float → Type 0
+abbrev Told : Result Cut Full → List ℕ → List Float → ℕ → List ℕ → List Float → Type 0
 Told c l f kind l' f' = (kind ≡ kind_of c) × ((l' ≡ counts_of c l) × (f' ≡ floats_of c f))
 
-pub nothing-told : (c : Cut) (t : State) (l l' : List ℕ) (f f' : List Float) → c ≡ Nothing t → l' ≡ put_counts t l → f' ≡ put_floats t f → Told c l f 0 l' f'
+pub nothing-told : (c : Result Cut Full) (t : State) (l l' : List ℕ) (f f' : List Float) → c ≡ Ok (Nothing t) → l' ≡ put_counts t l → f' ≡ put_floats t f → Told c l f 0 l' f'
 unfolding kind_of counts_of floats_of
-nothing-told c t l l' f f' e p q = subst (λ (z : Cut). Told z l f 0 l' f') (sym e) (refl, (p, q))
+nothing-told c t l l' f f' e p q = subst (λ (z : Result Cut Full). Told z l f 0 l' f') (sym e) (refl, (p, q))
 
-pub kept-told : (c : Cut) (t : State) (l l' : List ℕ) (f f' : List Float) → c ≡ Kept t → l' ≡ put_counts t l → f' ≡ put_floats t f → Told c l f 1 l' f'
+pub kept-told : (c : Result Cut Full) (t : State) (l l' : List ℕ) (f f' : List Float) → c ≡ Ok (Kept t) → l' ≡ put_counts t l → f' ≡ put_floats t f → Told c l f 1 l' f'
 unfolding kind_of counts_of floats_of
-kept-told c t l l' f f' e p q = subst (λ (z : Cut). Told z l f 1 l' f') (sym e) (refl, (p, q))
+kept-told c t l l' f f' e p q = subst (λ (z : Result Cut Full). Told z l f 1 l' f') (sym e) (refl, (p, q))
 
-pub refused-told : (c : Cut) (n : ℕ) (l : List ℕ) (f : List Float) → c ≡ Refused n → Told c l f n l f
+pub full-told : (c : Result Cut Full) (x : Full) (n : ℕ) (l : List ℕ) (f : List Float) → c ≡ Err x → n ≡ number_of x → Told c l f n l f
 unfolding kind_of counts_of floats_of
-refused-told c n l f e = subst (λ (z : Cut). Told z l f n l f) (sym e) (refl, (refl, refl))
+full-told c x n l f e h = subst (λ (z : Result Cut Full). Told z l f n l f) (sym e) (h, (refl, refl))
 
 -- ---- the piece
 
-module _ (s : Setup) (g : Grid) (region : Region) (r wide keep target guard : Float) (samples : ℕ) (down : Bool) (e : s ≡ passing g region r wide keep target guard samples down s.bound) (b : Bounds keep s.bound) where
+module _ (s : Setup) (g : Grid) (region : Region) (r wide keep target guard : Float) (samples : ℕ) (down : Bool) (e : s ≡ passing g region r wide s.keep target guard samples down) (b : s.keep.r ≡ keep) where
   abbrev of : Bound → Setup
-  of = passing g region r wide keep target guard samples down
+  of k = passing g region r wide k target guard samples down
 
-  pub cut_fitted : (vs : List Float) (lens bytes : List ℕ) (w : List Float) → Fitted (of Untold) vs lens (run 0 (g.ny * g.nx) bytes) w → Fitted s vs lens (run 0 (s.grid.ny * s.grid.nx) bytes) w
+  pub cut_fitted : (vs : List Float) (lens bytes : List ℕ) (w : List Float) → Fitted (of (loose keep)) vs lens (run 0 (g.ny * g.nx) bytes) w → Fitted s vs lens (run 0 (s.grid.ny * s.grid.nx) bytes) w
   cut_fitted vs lens bytes w f = subst (λ (z : Setup). Fitted z vs lens (run 0 (cells_of z) bytes) w) (sym e) record {
-    walls = record { over = f.walls.over; held = f.walls.held; bound = b };
+    walls = record { over = f.walls.over; held = f.walls.held };
     over = f.over;
     tables = f.tables;
     long = f.long;
@@ -69,11 +71,11 @@ module _ (s : Setup) (g : Grid) (region : Region) (r wide keep target guard : Fl
   pub cut_among : (from m : ℕ) → Among (g.ny * g.nx) from m → Among (s.grid.ny * s.grid.nx) from m
   cut_among from m h = subst (λ (z : Setup). Among (cells_of z) from m) (sym e) h
 
-  pub cut_by : (vs : List Float) (lens : List ℕ) (p p' : Place) (listed held : ℕ) (most : Float) (work : ℕ) (from m : ℕ) (closed : Bool) (bs us : List ℕ) (w : List Float) (rows : List ℕ) (o : List Float) (bs' us' rows' : List ℕ) (o' : List Float) (c : Cut) (kind : ℕ) (counts counts' : List ℕ) (floats floats' : List Float) → p ≡ p'
+  pub cut_by : (vs : List Float) (lens : List ℕ) (p p' : Place) (listed held : ℕ) (most : Float) (work : ℕ) (from m : ℕ) (closed : Bool) (bs us : List ℕ) (w : List Float) (rows : List ℕ) (o : List Float) (bs' us' rows' : List ℕ) (o' : List Float) (c : Result Cut Full) (kind : ℕ) (counts counts' : List ℕ) (floats floats' : List Float) → p ≡ p'
       → CutIn s vs lens (sta p listed held most work) from m closed bs us w rows o bs' us' rows' o' c → Told c counts floats kind counts' floats'
-      → CutBy of vs lens (sta p' listed held most work) from m closed bs us w rows o bs' us' rows' o' kind counts counts' floats floats'
+      → CutBy of keep vs lens (sta p' listed held most work) from m closed bs us w rows o bs' us' rows' o' kind counts counts' floats floats'
   cut_by vs lens p p' listed held most work from m closed bs us w rows o bs' us' rows' o' c kind counts counts' floats floats' at h t = record {
-    bound = s.bound;
+    bound = s.keep;
     bounds = b;
     cut = c;
     is = subst (λ (z : Setup). CutIn z vs lens (sta p' listed held most work) from m closed bs us w rows o bs' us' rows' o' c) e

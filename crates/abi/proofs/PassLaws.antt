@@ -6,8 +6,6 @@ use Prim.Native.Nat.{ℕ, ◌/◌, ◌≤◌}
 use native.Mathlib.Omega.{arith}
 use lib.ListN.{length, get_or, set}
 use lib.Ieee.{Float}
-use Rattle.numbers.specs.Bound.{Bounds}
-use Rattle.numbers.specs.declared.bound.Bound.TheVariants.{Untold}
 use Rattle.geom.specs.Points.{points}
 use Rattle.geom.specs.declared.region.Region.{Region}
 use Rattle.raster.specs.declared.grid.Grid.{Grid}
@@ -16,6 +14,7 @@ use Rattle.setup.specs.Tables.{Tables}
 use Rattle.setup.specs.declared.Setup.{Setup}
 use Rattle.passes.specs.Simulate.{ps, simulate_of, Usable}
 use Rattle.passes.specs.declared.trial.Trial.{Trial}
+use Rattle.abi.specs.Setup.{loose}
 use Rattle.abi.specs.Passes.{passing, PassBy}
 
 -- three numbers that are put down
@@ -30,12 +29,12 @@ told a b c (x ∷ []) h = absurd (let z : ⊥ = omega arith in z)
 told a b c (x ∷ y ∷ []) h = absurd (let z : ⊥ = omega arith in z)
 told a b c (x ∷ y ∷ z ∷ l) h = record { first = refl; second = refl; third = refl }
 
-module _ (s : Setup) (g : Grid) (region : Region) (r wide keep target guard : Float) (samples : ℕ) (e : s ≡ passing g region r wide keep target guard samples true s.bound) (b : Bounds keep s.bound) where
+module _ (s : Setup) (g : Grid) (region : Region) (r wide keep target guard : Float) (samples : ℕ) (e : s ≡ passing g region r wide s.keep target guard samples true) (b : s.keep.r ≡ keep) where
   abbrev plain : Setup
-  plain = passing g region r wide keep target guard samples true Untold
+  plain = passing g region r wide (loose keep) target guard samples true
 
   pub pass-walls : (wall vs : List Float) (lens : List ℕ) → Walls plain wall vs lens → Walls s wall vs lens
-  pass-walls wall vs lens f = subst (λ (z : Setup). Walls z wall vs lens) (sym e) record { over = f.over; held = f.held; bound = b }
+  pass-walls wall vs lens f = subst (λ (z : Setup). Walls z wall vs lens) (sym e) record { over = f.over; held = f.held }
 
   pub pass-tables : (w : List Float) → Tables plain w → Tables s w
   pass-tables w h = subst (λ (z : Setup). Tables z w) (sym e) h
@@ -49,7 +48,7 @@ module _ (s : Setup) (g : Grid) (region : Region) (r wide keep target guard : Fl
   pass_by_lem wall vs lens guide kept m l o m' l' o' t out h d =
       let q = told t.points t.removed t.work out h in
       record {
-        bound = s.bound;
+        bound = s.keep;
         bounds = b;
         trial = t;
         full_is = refl;

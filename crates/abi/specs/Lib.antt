@@ -1,3 +1,4 @@
+pub mod Distance
 pub mod Links
 pub mod Numbers
 pub mod Geom

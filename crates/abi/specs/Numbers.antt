@@ -1,7 +1,7 @@
 -- The answers of `numbers` that C has no type for, as numbers.
 use Rattle.std.specs.Prelude.{ℕ}
-use Rattle.numbers.specs.declared.order.Ordering.{Ordering}
-use Rattle.numbers.specs.declared.order.Ordering.TheVariants.{Less, Equal, Greater}
+use Rattle.std.specs.declared.cmp.Ordering.{Ordering}
+use Rattle.std.specs.declared.cmp.Ordering.TheVariants.{Less, Equal, Greater}
 
 unfoldable pub sign_of : Ordering → ℕ
 sign_of Less = 0

@@ -1,21 +1,24 @@
 -- A Setup of what the tests of a place read.
-use Rattle.std.specs.Prelude.{ℕ, true, Float}
+use Rattle.std.specs.Prelude.{ℕ, true, None, Float}
 use Rattle.std.specs.Float.{binary64}
 use Rattle.std.specs.Float.Ieee.{of_bits}
 use Rattle.numbers.specs.declared.bound.Bound.{Bound}
-use Rattle.numbers.specs.declared.bound.Bound.TheVariants.{Untold}
+use Rattle.numbers.proofs.BoundLaws.{bounds-none}
 use Rattle.geom.specs.declared.region.Region.{Region}
 use Rattle.raster.specs.declared.grid.Grid.{Grid}
 use Rattle.setup.specs.declared.Setup.{Setup}
 
-abbrev pub placed : Grid → Region → Float → Float → ℕ → Bound → Setup
-placed g region r keep samples bound = record {
+-- a number that no bound was found for
+abbrev pub loose : Float → Bound
+loose r = record { r = r; below = None; bounds = bounds-none r }
+
+abbrev pub placed : Grid → Region → Float → Bound → ℕ → Setup
+placed g region r keep samples = record {
   grid = g;
   region = region;
   r = r;
   r_guard = of_bits binary64 0;
   keep = keep;
-  bound = bound;
   target = of_bits binary64 0;
   guard = of_bits binary64 0;
   samples = samples;
@@ -24,7 +27,7 @@ placed g region r keep samples bound = record {
 
 -- the answers do not look at the bound
 abbrev pub plain : Grid → Region → Float → Float → ℕ → Setup
-plain g region r keep samples = placed g region r keep samples Untold
+plain g region r keep samples = placed g region r (loose keep) samples
 
 -- a Setup of what the field reads
 abbrev pub sensing : Grid → Float → Float → ℕ → Setup
@@ -33,8 +36,7 @@ sensing g r target samples = record {
   region = record { at = 0; first = 0; loops = 0 };
   r = r;
   r_guard = of_bits binary64 0;
-  keep = of_bits binary64 0;
-  bound = Untold;
+  keep = loose (of_bits binary64 0);
   target = target;
   guard = of_bits binary64 0;
   samples = samples;

@@ -1,7 +1,6 @@
 // The functions of `cutting`. The state goes in as its numbers; the answer is a kind, and the new state's
 // numbers come back in two lent slices.
 ghost use Rattle.std.specs.Prelude.{◌≡◌, ◌*◌, ◌≤◌, length};
-ghost use Rattle.numbers.specs.declared.bound.Bound.TheVariants.{Untold};
 ghost use Rattle.setup.specs.Layout.{map_in};
 ghost use Rattle.links.specs.Path.{Fitted};
 ghost use Rattle.cutting.specs.Tries.{Among};
@@ -9,40 +8,38 @@ ghost use Rattle.cutting.specs.Piece.{sta, Lends, Listed};
 ghost use Rattle.abi.specs.Geom.{region};
 ghost use Rattle.abi.specs.Raster.{grid};
 ghost use Rattle.abi.specs.Passes.{passing};
+ghost use Rattle.abi.specs.Setup.{loose};
 ghost use Rattle.abi.specs.Cutting.{place_of, down_of, spot_of, kind_of, put_counts, put_floats, counts_of, floats_of, CutBy};
 
 use super::of_passes::passing;
+use cutting::listing::Full;
 use cutting::piece::{Cut, State};
 use geom::region::Region;
 use geom::vec2::Vec2;
-use passes::start::Place;
 use raster::grid::Grid;
 
-fn place(down: bool, x: f64, y: f64) -> Place
+fn place(down: bool, x: f64, y: f64) -> Option<Vec2>
     ensures { result ≡ place_of down x y }
 {
     if down {
-        return Place::At(Vec2 { x, y });
+        return Some(Vec2 { x, y });
     }
-    Place::Nowhere
+    None
 }
 
-fn is_down(p: Place) -> u64
+fn is_down(p: Option<Vec2>) -> u64
     ensures { result ≡ down_of p }
 {
     match p {
-        Place::At(_) => 1,
-        Place::Nowhere => 0,
+        Some(_) => 1,
+        None => 0,
     }
 }
 
-fn spot(p: Place) -> Vec2
+fn spot(p: Option<Vec2>) -> Vec2
     ensures { result ≡ spot_of p }
 {
-    match p {
-        Place::At(q) => q,
-        Place::Nowhere => Vec2 { x: 0.0, y: 0.0 },
-    }
+    p.unwrap_or(Vec2 { x: 0.0, y: 0.0 })
 }
 
 // Counts: whether the tool is somewhere, rows, triples, work. Floats: the tool's place, the greatest contact.
@@ -64,14 +61,18 @@ fn put_state(t: State, counts: &mut [u64], floats: &mut [f64])
 }
 
 // The kind of an answer; its state, if it has one, is put down.
-fn put_cut(c: Cut, counts: &mut [u64], floats: &mut [f64]) -> u32
+fn put_cut(c: Result<Cut, Full>, counts: &mut [u64], floats: &mut [f64]) -> u32
     requires in_bounds { 4 ≤ length counts.old }
     requires in_bounds_2 { 3 ≤ length floats.old }
     ensures value { result ≡ kind_of c }
     ensures counts_after { counts.new ≡ counts_of c counts.old }
     ensures floats_after { floats.new ≡ floats_of c floats.old }
 {
-    match c {
+    let cut = match c {
+        Ok(cut) => cut,
+        Err(full) => return full.into(),
+    };
+    match cut {
         Cut::Nothing(t) => {
             put_state(t, counts, floats);
             0
@@ -80,7 +81,6 @@ fn put_cut(c: Cut, counts: &mut [u64], floats: &mut [f64]) -> u32
             put_state(t, counts, floats);
             1
         }
-        Cut::Refused(n) => n,
     }
 }
 
@@ -122,13 +122,13 @@ pub extern "C" fn cutting_cut_piece(
     counts: &mut [u64],
     floats: &mut [f64],
 ) -> u32
-    requires fitted { Fitted (passing (grid ox oy cell nx ny) (region at first loops) r wide keep target guard samples keep_down Untold) vs.now lens.now (map_in (ny * nx) b.old) w.old }
+    requires fitted { Fitted (passing (grid ox oy cell nx ny) (region at first loops) r wide (loose keep) target guard samples keep_down) vs.now lens.now (map_in (ny * nx) b.old) w.old }
     requires lends { Lends (ny * nx) b.old u.old }
     requires among { Among (ny * nx) from m }
     requires listed { Listed rows.old triples.old (sta (place_of down x y) listed_rows listed_triples planned_max work) 0 }
     requires in_bounds { 4 ≤ length counts.old }
     requires in_bounds_2 { 3 ≤ length floats.old }
-    ensures { CutBy (passing (grid ox oy cell nx ny) (region at first loops) r wide keep target guard samples keep_down) vs.now lens.now (sta (place_of down x y) listed_rows listed_triples planned_max work) from m closed b.old u.old w.old rows.old triples.old b.new u.new rows.new triples.new result counts.old counts.new floats.old floats.new }
+    ensures { CutBy (λ k. passing (grid ox oy cell nx ny) (region at first loops) r wide k target guard samples keep_down) keep vs.now lens.now (sta (place_of down x y) listed_rows listed_triples planned_max work) from m closed b.old u.old w.old rows.old triples.old b.new u.new rows.new triples.new result counts.old counts.new floats.old floats.new }
 {
     let origin = Vec2 { x: ox, y: oy };
     let g = Grid {

@@ -45,8 +45,10 @@ pub extern "C" fn field_round(
         },
         r,
         r_guard: 0.0,
-        keep: 0.0,
-        bound: Bound::Untold,
+        keep: Bound {
+            r: 0.0,
+            below: None,
+        },
         target,
         guard: 0.0,
         samples,

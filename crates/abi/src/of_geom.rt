@@ -7,6 +7,7 @@ ghost use Rattle.abi.specs.Geom.{region, put2, put4};
 
 use geom::region::Region;
 use geom::vec2::Vec2;
+use numbers::bound::Bound;
 
 // Puts a vector into the first two places.
 pub fn put(v: Vec2, out: &mut [f64])
@@ -133,14 +134,12 @@ pub extern "C" fn geom_any_within(
     requires { Held vs.now lens.now (region at first loops) }
     ensures { result ≡ any_within vs.now lens.now (region at first loops) (v2 x y) r }
 {
-    let bound = numbers::bound::bound_of(r);
     geom::segment::any_within(
         vs,
         lens,
         Region { at, first, loops },
         Vec2 { x, y },
-        r,
-        bound,
+        Bound::of(r),
     )
 }
 

@@ -49,16 +49,13 @@ fn put_route(r: Route, out: &mut [u64]) -> bool
     requires { 2 ≤ length out.old }
     ensures { route_in result out.new ≡ r }
 {
-    match r {
-        Route::Along(points, work) => {
+    out[1] = r.work as u64;
+    match r.points {
+        Some(points) => {
             out[0] = points as u64;
-            out[1] = work as u64;
             true
         }
-        Route::Lost(work) => {
-            out[1] = work as u64;
-            false
-        }
+        None => false,
     }
 }
 

@@ -8,7 +8,7 @@ ghost use Rattle.numbers.specs.Root.{root_of};
 ghost use Rattle.numbers.specs.Circle.{cos_of, sin_of, radians_of, degrees_of};
 ghost use Rattle.abi.specs.Numbers.{sign_of};
 
-use numbers::order::Ordering;
+use std::cmp::Ordering;
 
 #[unsafe(no_mangle)]
 pub extern "C" fn numbers_sat_u64(x: f64) -> u64

@@ -1,16 +1,16 @@
 // The functions of `passes`.
 ghost use Rattle.std.specs.Prelude.{◌≡◌, true, ◌≤◌, length};
-ghost use Rattle.numbers.specs.Bound.{Bounds};
-ghost use Rattle.numbers.specs.declared.bound.Bound.TheVariants.{Untold};
 ghost use Rattle.setup.specs.Place.{Walls};
 ghost use Rattle.setup.specs.Tables.{Tables};
 ghost use Rattle.passes.specs.Simulate.{Usable};
 ghost use Rattle.abi.specs.Geom.{region};
 ghost use Rattle.abi.specs.Raster.{grid};
 ghost use Rattle.abi.specs.Passes.{passing, PassBy};
+ghost use Rattle.abi.specs.Setup.{loose};
 
 use geom::region::Region;
 use geom::vec2::Vec2;
+use numbers::bound::Bound;
 use raster::grid::Grid;
 use setup::Setup;
 
@@ -25,16 +25,14 @@ pub fn passing(
     samples: usize,
     keep_down: bool,
 ) -> Setup
-    ensures { (result ≡ passing grid region r wide keep target guard samples keep_down result.bound) × Bounds keep result.bound }
+    ensures { (result ≡ passing grid region r wide result.keep target guard samples keep_down) × (result.keep.r ≡ keep) }
 {
-    let bound = numbers::bound::bound_of(keep);
     Setup {
         grid,
         region,
         r,
         r_guard: wide,
-        keep,
-        bound,
+        keep: Bound::of(keep),
         target,
         guard,
         samples,
@@ -70,9 +68,9 @@ pub extern "C" fn passes_simulate(
     kept: usize,
     out: &mut [u64],
 ) -> bool
-    requires walls { Walls (passing (grid ox oy cell nx ny) (region at first loops) r wide keep target guard samples true Untold) wall.now vs.now lens.now }
-    requires tables { Tables (passing (grid ox oy cell nx ny) (region at first loops) r wide keep target guard samples true Untold) rim.now }
-    requires usable { Usable (passing (grid ox oy cell nx ny) (region at first loops) r wide keep target guard samples true Untold) map.old log.old guide.now }
+    requires walls { Walls (passing (grid ox oy cell nx ny) (region at first loops) r wide (loose keep) target guard samples true) wall.now vs.now lens.now }
+    requires tables { Tables (passing (grid ox oy cell nx ny) (region at first loops) r wide (loose keep) target guard samples true) rim.now }
+    requires usable { Usable (passing (grid ox oy cell nx ny) (region at first loops) r wide (loose keep) target guard samples true) map.old log.old guide.now }
     requires in_bounds { 3 ≤ length out.old }
     ensures { PassBy (grid ox oy cell nx ny) (region at first loops) r wide keep target guard samples wall.now vs.now lens.now guide.now kept map.old log.old triples.old map.new log.new triples.new result out.new }
 {

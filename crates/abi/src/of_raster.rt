@@ -15,8 +15,8 @@ ghost use Rattle.abi.specs.Raster.{grid, packed_grid, corner_put, packed_cell, p
 
 use geom::region::Region;
 use geom::vec2::Vec2;
-use raster::disk::Span;
-use raster::grid::{Found, Grid, Raster};
+use raster::disk::Cols;
+use raster::grid::Grid;
 
 // The grid over two corners: its sides, and its own corner written to `out`; or document 01's refusal.
 #[unsafe(no_mangle)]
@@ -35,15 +35,12 @@ pub extern "C" fn raster_new(
 {
     let lo = Vec2 { x: lx, y: ly };
     let hi = Vec2 { x: hx, y: hy };
-    let r = raster::grid::new(lo, hi, cell, margin);
-    match r {
-        Raster::Unfit => raster::grid::refusal_of(r) as u64,
-        Raster::TooLarge => raster::grid::refusal_of(r) as u64,
-        Raster::Of(g) => {
-            let corner = g.origin;
-            super::of_geom::put(corner, out);
+    match raster::grid::new(lo, hi, cell, margin) {
+        Ok(g) => {
+            super::of_geom::put(g.origin, out);
             sides(g.nx, g.ny)
         }
+        Err(refusal) => u64::from(u32::from(refusal)),
     }
 }
 
@@ -81,8 +78,8 @@ pub extern "C" fn raster_cell_of(
         Vec2 { x, y },
     );
     match f {
-        Found::Nothing => 0xffff_ffff_ffff_ffff,
-        Found::At(i, j) => pack(i, j),
+        None => 0xffff_ffff_ffff_ffff,
+        Some((i, j)) => pack(i, j),
     }
 }
 
@@ -119,12 +116,12 @@ pub extern "C" fn raster_disk_row(
     pack_span(raster::disk::chord(g, Vec2 { x, y }, r * r, j))
 }
 
-fn pack_span(s: Span) -> u64
+fn pack_span(s: Option<Cols>) -> u64
     ensures { result ≡ packed_span s }
 {
     match s {
-        Span::Empty => 0xffff_ffff_ffff_ffff,
-        Span::Cols(a, b) => ((b % 0x1_0000) as u64) * 0x1_0000_0000 + ((a % 0x1_0000) as u64),
+        None => 0xffff_ffff_ffff_ffff,
+        Some((a, b)) => ((b % 0x1_0000) as u64) * 0x1_0000_0000 + ((a % 0x1_0000) as u64),
     }
 }
 
@@ -294,7 +291,7 @@ pub extern "C" fn raster_undo(map: &mut [u8], log: &[u32], count: usize)
     requires { Logged log.now count (length map.old) }
     ensures { map.new ≡ undone log.now 0 count map.old }
 {
-    raster::log::undo(map, log, count);
+    raster::log::undo(map, &log[..count]);
 }
 
 #[unsafe(no_mangle)]
@@ -302,7 +299,7 @@ pub extern "C" fn raster_clear_again(map: &mut [u8], log: &[u32], count: usize)
     requires { Logged log.now count (length map.old) }
     ensures { map.new ≡ redone log.now 0 count map.old }
 {
-    raster::log::clear_again(map, log, count);
+    raster::log::clear_again(map, &log[..count]);
 }
 
 // The angle of a contact. The table of directions is filled first.

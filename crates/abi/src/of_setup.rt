@@ -5,7 +5,6 @@ ghost use Rattle.geom.specs.Vec.{v2};
 ghost use Rattle.geom.specs.Region.{Held};
 ghost use Rattle.raster.specs.Grid.{Sides, Over};
 ghost use Rattle.raster.specs.Contact.{samples_of};
-ghost use Rattle.numbers.specs.Bound.{Bounds};
 ghost use Rattle.setup.specs.Limits as Limits;
 ghost use Rattle.setup.specs.Place.{allowed_at};
 ghost use Rattle.setup.specs.Tables.{ToolTables, Tables};
@@ -16,6 +15,7 @@ ghost use Rattle.abi.specs.Setup.{placed, plain};
 
 use geom::region::Region;
 use geom::vec2::Vec2;
+use links::straight::Ground;
 use numbers::bound::Bound;
 use raster::grid::Grid;
 use setup::Setup;
@@ -42,16 +42,14 @@ pub extern "C" fn setup_samples_of(r: f64, cell: f64) -> usize
 }
 
 pub fn made(g: Grid, region: Region, r: f64, keep: f64, samples: usize) -> Setup
-    ensures { (result ≡ placed g region r keep samples result.bound) × Bounds keep result.bound }
+    ensures { (result ≡ placed g region r result.keep samples) × (result.keep.r ≡ keep) }
 {
-    let bound = numbers::bound::bound_of(keep);
     Setup {
         grid: g,
         region,
         r,
         r_guard: 0.0,
-        keep,
-        bound,
+        keep: Bound::of(keep),
         target: 0.0,
         guard: 0.0,
         samples,
@@ -126,8 +124,10 @@ pub extern "C" fn setup_fill_tables(
         region,
         r,
         r_guard: wide,
-        keep: 0.0,
-        bound: Bound::Untold,
+        keep: Bound {
+            r: 0.0,
+            below: None,
+        },
         target: 0.0,
         guard: 0.0,
         samples,
@@ -177,5 +177,14 @@ pub extern "C" fn links_link_clear(
     rims::tiles::fill(s.grid, map, &mut tiles);
     let a = Vec2 { x: ax, y: ay };
     let b = Vec2 { x: bx, y: by };
-    links::straight::link_clear(s, wall, vs, lens, map, &tiles, tables, a, b)
+    let ground = Ground {
+        setup: s,
+        wall,
+        vs,
+        lens,
+        map,
+        tiles: &tiles,
+        rim: tables,
+    };
+    ground.link_clear(a, b)
 }

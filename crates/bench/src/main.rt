@@ -10,33 +10,8 @@ use bench_talk::Talk;
 use std::io;
 use std::io::Read;
 
-#[derive(Clone, Copy)]
-struct Part {
-    talk: Talk,
-    more: bool,
-}
-
-// Reads what there is. Keeping the loop out of it keeps the buffer out of the loop's proof.
-fn some(
-    rt: &impl Print,
-    input: &mut impl Read,
-    t: Talk,
-    map: &mut [u8],
-    log: &mut [u32],
-) -> io::Result<Part>
-    requires { Fit t.bench map.old log.old }
-    ensures { IfOk result (λ r. Fit r.talk.bench map.new log.new) }
-{
-    let mut read = [0u8; 4096];
-    let n = input.read(&mut read)?;
-    let next = bench_talk::bytes(rt, &read[..n], t, map, log)?;
-    Ok(Part {
-        talk: next,
-        more: (0 < n) & !next.ended,
-    })
-}
-
-// The turns are counted, since nothing says that the input ends.
+// The turns are counted, since nothing says that the input ends. One `listen` for both programs would need a trait over
+// what they keep, with its bench as a ghost member: longer than the two.
 fn listen(
     rt: &(impl Input + Print),
     start: Talk,
@@ -47,11 +22,12 @@ fn listen(
     ensures { IfOk result (λ r. Fit r.bench map.new log.new) }
 {
     let mut input = rt.reader();
+    let mut buffer = [0u8; 4096];
     let mut t = start;
     for _ in 0..u64::MAX {
-        let part = some(rt, &mut input, t, map, log)?;
-        t = part.talk;
-        if !part.more {
+        let n = input.read(&mut buffer)?;
+        t = bench_talk::bytes(rt, &buffer[..n], t, map, log)?;
+        if n == 0 || t.ended {
             break;
         }
     }

@@ -10,18 +10,19 @@ use bench_talk::Talk;
 use std::io;
 use std::io::Read;
 
-#[derive(Clone, Copy)]
-struct Cases {
-    talk: Talk,
-    // There is a case, and its name is still being read.
-    begun: bool,
-    naming: bool,
+// What the next byte belongs to.
+#[derive(Clone, Copy, PartialEq, Eq)]
+enum Place {
+    // What stands before the first case.
+    Before,
+    Name,
+    Input,
 }
 
 #[derive(Clone, Copy)]
-struct Part {
-    cases: Cases,
-    more: bool,
+struct Cases {
+    talk: Talk,
+    place: Place,
 }
 
 // What is left of a case is a line where it has begun.
@@ -29,9 +30,8 @@ fn finish(rt: &impl Print, c: Cases, map: &mut [u8], log: &mut [u32]) -> io::Res
     requires { Fit c.talk.bench map.old log.old }
     ensures { OnOk result (Fit no_map map.new log.new) }
 {
-    let t = c.talk;
-    if c.begun {
-        bench_talk::finish(rt, t, map, log)?;
+    if c.place != Place::Before {
+        bench_talk::finish(rt, c.talk, map, log)?;
     }
     Ok(())
 }
@@ -45,8 +45,7 @@ fn next(rt: &impl Print, c: Cases, map: &mut [u8], log: &mut [u32]) -> io::Resul
     print!(rt; "-- ")?;
     Ok(Cases {
         talk: bench_talk::start(),
-        begun: true,
-        naming: true,
+        place: Place::Name,
     })
 }
 
@@ -54,14 +53,13 @@ fn next(rt: &impl Print, c: Cases, map: &mut [u8], log: &mut [u32]) -> io::Resul
 fn name(rt: &impl Print, c: Cases, b: u8) -> io::Result<Cases>
     ensures { IfOk result (λ r. r.talk ≡ c.talk) }
 {
-    let one = [b];
-    rt.write_all(&one)?;
-    let t = c.talk;
-    Ok(Cases {
-        talk: t,
-        begun: c.begun,
-        naming: b != b'\n',
-    })
+    rt.write_all(&[b])?;
+    let place = if b == b'\n' {
+        Place::Input
+    } else {
+        Place::Name
+    };
+    Ok(Cases { place, ..c })
 }
 
 fn byte(rt: &impl Print, c: Cases, b: u8, map: &mut [u8], log: &mut [u32]) -> io::Result<Cases>
@@ -71,14 +69,12 @@ fn byte(rt: &impl Print, c: Cases, b: u8, map: &mut [u8], log: &mut [u32]) -> io
     if b == 30 {
         return next(rt, c, map, log);
     }
-    if c.naming {
+    if c.place == Place::Name {
         return name(rt, c, b);
     }
-    let t = c.talk;
     Ok(Cases {
-        talk: bench_talk::byte(rt, t, b, map, log)?,
-        begun: c.begun,
-        naming: false,
+        talk: bench_talk::byte(rt, c.talk, b, map, log)?,
+        ..c
     })
 }
 
@@ -93,31 +89,13 @@ fn bytes(
     ensures { IfOk result (λ r. Fit r.talk.bench map.new log.new) }
 {
     let mut c = start;
-    for b in read {
-        c = byte(rt, c, *b, map, log)?;
+    for &b in read {
+        c = byte(rt, c, b, map, log)?;
     }
     Ok(c)
 }
 
-fn some(
-    rt: &impl Print,
-    input: &mut impl Read,
-    c: Cases,
-    map: &mut [u8],
-    log: &mut [u32],
-) -> io::Result<Part>
-    requires { Fit c.talk.bench map.old log.old }
-    ensures { IfOk result (λ r. Fit r.cases.talk.bench map.new log.new) }
-{
-    let mut read = [0u8; 4096];
-    let n = input.read(&mut read)?;
-    Ok(Part {
-        cases: bytes(rt, &read[..n], c, map, log)?,
-        more: 0 < n,
-    })
-}
-
-// The turns are counted, since nothing says that the input ends.
+// As in `bench`, which says why it is not one function, but no bad line ends the cases.
 fn listen(
     rt: &(impl Input + Print),
     start: Cases,
@@ -128,13 +106,14 @@ fn listen(
     ensures { IfOk result (λ r. Fit r.talk.bench map.new log.new) }
 {
     let mut input = rt.reader();
+    let mut buffer = [0u8; 4096];
     let mut c = start;
     for _ in 0..u64::MAX {
-        let part = some(rt, &mut input, c, map, log)?;
-        c = part.cases;
-        if !part.more {
+        let n = input.read(&mut buffer)?;
+        if n == 0 {
             break;
         }
+        c = bytes(rt, &buffer[..n], c, map, log)?;
     }
     Ok(c)
 }
@@ -144,8 +123,7 @@ fn main(rt: HostRuntime) -> io::Result<()> {
     let mut log = [0u32; 4096];
     let start = Cases {
         talk: bench_talk::start(),
-        begun: false,
-        naming: false,
+        place: Place::Before,
     };
     let c = listen(&rt, start, &mut map, &mut log)?;
     finish(&rt, c, &mut map, &mut log)

@@ -4,6 +4,7 @@ use mathlib.Core.Bool.{Bool, true, false, cond}
 use mathlib.Core.List.{List, [], ◌∷◌}
 use Prim.Native.Nat.{ℕ}
 use lib.Dec.{eqb}
+use Rattle.std.specs.Prelude.{Option, Some, None, IfSome}
 use borrow.Author.Tests.{eqb-true}
 use Rattle.loops.specs.Each.{over, Each}
 use Rattle.loops.proofs.Cases.{by_cases}
@@ -11,7 +12,6 @@ use Rattle.bench_lines.specs.Words.{step_of, next_field}
 use Rattle.bench_lines.specs.Line.{line_of}
 use Rattle.bench_lines.specs.Meaning.{on_first, fields_of}
 use Rattle.bench_lines.specs.declared.words.Words.{Words}
-use Rattle.bench_lines.specs.declared.line.Line.TheVariants.{Bad}
 
 -- ---- fields
 
@@ -42,15 +42,15 @@ parted (c ∷ l) =
 -- ---- fields read
 
 -- behind the first, each after its tab
-unfoldable pub later_read : List (List ℕ) → Words → Words
+unfoldable pub later_read : List (List ℕ) → Option Words → Option Words
 later_read [] w = w
 later_read (f ∷ fs) w = later_read fs (over step_of f (step_of 9 w))
 
-unfoldable pub all_read : List (List ℕ) → Words → Words
+unfoldable pub all_read : List (List ℕ) → Option Words → Option Words
 all_read [] w = w
 all_read (f ∷ fs) w = later_read fs (over step_of f w)
 
-pub read_fields : (l : List ℕ) (w : Words) → over step_of l w ≡ all_read (fields_of l) w
+pub read_fields : (l : List ℕ) (w : Option Words) → over step_of l w ≡ all_read (fields_of l) w
 unfolding fields_of over all_read later_read on_first
 read_fields [] w = refl
 read_fields (c ∷ l) w =
@@ -63,34 +63,34 @@ read_fields (c ∷ l) w =
 -- ---- what a bad line stays
 
 -- bad, or nothing yet of the present field: neither can end well
-abbrev pub Failing : Words → Type 0
-Failing w = cond w.bad true w.empty ≡ true
+abbrev pub Failing : Option Words → Type 0
+Failing w = IfSome w (λ (u : Words). u.empty ≡ true)
 
-pub bad_step : (c : ℕ) (w : Words) → w.bad ≡ true → (step_of c w).bad ≡ true
+pub bad_step : (c : ℕ) (w : Option Words) → w ≡ None → step_of c w ≡ None
 unfolding step_of
-bad_step c w h = rw h
+bad_step c w h = ap (step_of c) h
 
-pub bad_stays : (l : List ℕ) (w : Words) → w.bad ≡ true → (over step_of l w).bad ≡ true
+pub bad_stays : (l : List ℕ) (w : Option Words) → w ≡ None → over step_of l w ≡ None
 unfolding over
 bad_stays [] w h = h
 bad_stays (c ∷ l) w h = bad_stays l (step_of c w) (bad_step c w h)
 
-pub bad_later : (fs : List (List ℕ)) (w : Words) → w.bad ≡ true → (later_read fs w).bad ≡ true
+pub bad_later : (fs : List (List ℕ)) (w : Option Words) → w ≡ None → later_read fs w ≡ None
 unfolding later_read
 bad_later [] w h = h
 bad_later (f ∷ fs) w h = bad_later fs _ (bad_stays f (step_of 9 w) (bad_step 9 w h))
 
-pub bad_line : (w : Words) → w.bad ≡ true → line_of w ≡ Bad
+pub bad_line : (w : Option Words) → w ≡ None → line_of w ≡ None
 unfolding line_of
-bad_line w h = rw h
+bad_line w h = ap line_of h
 
-failing_next : (w : Words) → Failing w → (step_of 9 w).bad ≡ true
+failing_next : (w : Option Words) → Failing w → step_of 9 w ≡ None
 unfolding step_of next_field
-failing_next w h =
-    by_cases w.bad (λ b. rw b)
-    (λ b. let e : w.empty ≡ true = rw b at h in rw (b, e))
+failing_next None h = refl
+failing_next (Some w) h = rw h
 
-pub failing_line : (fs : List (List ℕ)) (w : Words) → Failing w → line_of (later_read fs w) ≡ Bad
+pub failing_line : (fs : List (List ℕ)) (w : Option Words) → Failing w → line_of (later_read fs w) ≡ None
 unfolding later_read line_of
-failing_line [] w h = by_cases w.bad (λ b. rw b) (λ b. let e : w.empty ≡ true = rw b at h in rw (b, e))
+failing_line [] None h = refl
+failing_line [] (Some w) h = rw h
 failing_line (f ∷ fs) w h = bad_line (later_read fs (over step_of f (step_of 9 w))) (bad_later fs (over step_of f (step_of 9 w)) (bad_stays f (step_of 9 w) (failing_next w h)))

@@ -5,6 +5,7 @@ use mathlib.Core.List.{List, [], ◌∷◌}
 use mathlib.Core.Logic.{◌⊎◌, inl, inr, ⊎_elim}
 use Prim.Native.Nat.{ℕ, ◌+◌, ◌*◌, ◌≤◌, ◌<◌}
 use native.Mathlib.Omega.{arith}
+use Rattle.std.specs.Prelude.{Option, Some, None}
 use lib.ListN.{length}
 use lib.Dec.{eqb, ltb}
 use borrow.Author.Tests.{ltb-false, eqb-true, lt-ltb, le-ltb, eq-eqb}
@@ -17,7 +18,7 @@ use Rattle.bench_lines.proofs.FieldLaws.{Plain, Failing, bad_stays}
 
 -- a word so far
 abbrev pub spelled : Bool → ℕ → Words
-spelled e n = record { bad = false; empty = e; count = 0; word = n; a = 0; b = 0; c = 0; d = 0; last = 0 }
+spelled e n = record { empty = e; count = 0; word = n; a = 0; b = 0; c = 0; d = 0; last = 0 }
 
 -- its letters' number
 unfoldable pub code_from : ℕ → List ℕ → ℕ
@@ -30,50 +31,50 @@ pub record Letter (c : ℕ) : Type 0 where
 
 -- f is up to four letters, and read as such
 pub record Spelt (f : List ℕ) : Type 0 where
-  pub is : over step_of f no_words ≡ spelled false (code_from 0 f)
+  pub is : over step_of f (Some no_words) ≡ Some (spelled false (code_from 0 f))
   pub letters : Each Letter f
   pub few : length f ≤ 4
 
 module _ (c n : ℕ) (e : Bool) (t : eqb c 9 ≡ false) where
-  letter_step : Letter c → n ≤ 16777215 → step_of c (spelled e n) ≡ spelled false (n * 256 + c)
+  letter_step : Letter c → n ≤ 16777215 → step_of c (Some (spelled e n)) ≡ Some (spelled false (n * 256 + c))
   unfolding step_of letter_of
   letter_step l h = rw (t, le-ltb c 97 l.low, le-ltb 122 c l.high, le-ltb 16777215 n h)
 
-  full-step : 16777215 < n → (step_of c (spelled e n)).bad ≡ true
+  full-step : 16777215 < n → step_of c (Some (spelled e n)) ≡ None
   unfolding step_of letter_of
   full-step h = by_cases (ltb c 97) (λ a. rw (t, a)) (λ a. by_cases (ltb 122 c) (λ b. rw (t, a, b)) (λ b. rw (t, a, b, lt-ltb 16777215 n h)))
 
   -- c is a letter, or ends the line badly
-  letter_or : ((step_of c (spelled e n)).bad ≡ true) ⊎ Letter c
+  letter_or : (step_of c (Some (spelled e n)) ≡ None) ⊎ Letter c
   unfolding step_of letter_of
   letter_or =
       by_cases (ltb c 97) (λ a. inl (rw (t, a)))
       (λ a. by_cases (ltb 122 c) (λ b. inl (rw (t, a, b))) (λ b. inr (record { low = ltb-false c 97 a; high = ltb-false 122 c b })))
 
-failing : (w : Words) → w.bad ≡ true → Failing w
-failing w h = rw h
+failing : (w : Option Words) → w ≡ None → Failing w
+failing w h = subst Failing (sym h) tt
 
 -- up to k letters more, behind those whose number is n
 pub record Rest (k n : ℕ) (l : List ℕ) : Type 0 where
-  pub is : over step_of l (spelled false n) ≡ spelled false (code_from n l)
+  pub is : over step_of l (Some (spelled false n)) ≡ Some (spelled false (code_from n l))
   pub letters : Each Letter l
   pub few : length l ≤ k
 
 abbrev RestOr : ℕ → ℕ → List ℕ → Type 0
-RestOr k n l = Failing (over step_of l (spelled false n)) ⊎ Rest k n l
+RestOr k n l = Failing (over step_of l (Some (spelled false n))) ⊎ Rest k n l
 
 rest-none : (n : ℕ) → 16777215 < n → (l : List ℕ) → Plain l → RestOr 0 n l
 unfolding over Each code_from
 rest-none n h [] p = inr (record { is = refl; letters = tt; few = omega arith })
-rest-none n h (c ∷ l) p = inl (failing (over step_of l (step_of c (spelled false n))) (bad_stays l _ (full-step c n false p.0 h)))
+rest-none n h (c ∷ l) p = inl (failing (over step_of l (step_of c (Some (spelled false n)))) (bad_stays l _ (full-step c n false p.0 h)))
 
 rest_more : (k n : ℕ) → n ≤ 16777215 → ((c : ℕ) → Letter c → (l : List ℕ) → Plain l → RestOr k (n * 256 + c) l) → (l : List ℕ) → Plain l → RestOr (k + 1) n l
 unfolding over Each code_from
 rest_more k n h next [] p = inr (record { is = refl; letters = tt; few = omega arith })
 rest_more k n h next (c ∷ l) p =
-    ⊎_elim (λ b. inl (failing (over step_of l (step_of c (spelled false n))) (bad_stays l _ b)))
+    ⊎_elim (λ b. inl (failing (over step_of l (step_of c (Some (spelled false n)))) (bad_stays l _ b)))
     (λ a. let s = letter_step c n false p.0 a h in
-    ⊎_elim (λ f. inl (subst (λ (u : Words). Failing (over step_of l u)) (sym s) f))
+    ⊎_elim (λ f. inl (subst (λ (u : Option Words). Failing (over step_of l u)) (sym s) f))
     (λ r. inr (record { is = ap (over step_of l) s ∙ r.is; letters = (a, r.letters); few = let z = r.few in omega arith }))
     (next c a l p.1))
     (letter_or c n false p.0)
@@ -86,13 +87,13 @@ rest_three a A =
     rest_more 0 _ (let z = A.high in let y = B.high in let x = C.high in omega arith) (λ d D.
     rest-none _ (let z = A.low in omega arith))))
 
-pub spell : (f : List ℕ) → Plain f → Failing (over step_of f no_words) ⊎ Spelt f
+pub spell : (f : List ℕ) → Plain f → Failing (over step_of f (Some no_words)) ⊎ Spelt f
 unfolding over Each code_from
 spell [] p = inl refl
 spell (a ∷ l) p =
-    ⊎_elim (λ b. inl (failing (over step_of l (step_of a no_words)) (bad_stays l _ b)))
+    ⊎_elim (λ b. inl (failing (over step_of l (step_of a (Some no_words))) (bad_stays l _ b)))
     (λ A. let s = letter_step a 0 true p.0 A (omega arith) in
-    ⊎_elim (λ f. inl (subst (λ (u : Words). Failing (over step_of l u)) (sym s) f))
+    ⊎_elim (λ f. inl (subst (λ (u : Option Words). Failing (over step_of l u)) (sym s) f))
     (λ r. inr (record { is = ap (over step_of l) s ∙ r.is; letters = (A, r.letters); few = let z = r.few in omega arith }))
     (rest_three a A l p.1))
     (letter_or a 0 true p.0)

@@ -1,7 +1,8 @@
 -- What a line means, by its fields, which tabs part, and the decimals in them. Definitions only.
-use Rattle.std.specs.Prelude.{ℕ, ◌+◌, ◌*◌, ◌-◌, Bool, true, false, cond, not, ◌&&◌, List, [], ◌∷◌, eqb, leb}
+use Rattle.std.specs.Prelude.{ℕ, ◌+◌, ◌*◌, ◌-◌, Bool, true, false, cond, not, ◌&&◌, List, [], ◌∷◌, eqb, leb, Option, Some, None}
+use Rattle.bench_lines.specs.Line.{sides}
 use Rattle.bench_lines.specs.declared.line.Line.{Line}
-use Rattle.bench_lines.specs.declared.line.Line.TheVariants.{Map, Pass, Undo, Bad}
+use Rattle.bench_lines.specs.declared.line.Line.TheVariants.{Map, Pass, Undo}
 
 -- ---- fields
 
@@ -65,32 +66,32 @@ abbrev pub undo_word : List ℕ
 undo_word = 117 ∷ 110 ∷ 100 ∷ 111 ∷ []
 
 -- two sides
-unfoldable pub map_by : List (List ℕ) → Line
-map_by [] = Bad
-map_by (a ∷ []) = Bad
-map_by (a ∷ b ∷ []) = cond (is_side a && is_side b) (Map (value_of a) (value_of b)) Bad
-map_by (a ∷ b ∷ c ∷ fs) = Bad
+unfoldable pub map_by : List (List ℕ) → Option Line
+map_by [] = None
+map_by (a ∷ []) = None
+map_by (a ∷ b ∷ []) = cond (is_side a && is_side b) (Some (Map (sides (value_of a) (value_of b)))) None
+map_by (a ∷ b ∷ c ∷ fs) = None
 
 -- five numbers
-unfoldable pub pass_by : List (List ℕ) → Line
-pass_by [] = Bad
-pass_by (a ∷ []) = Bad
-pass_by (a ∷ b ∷ []) = Bad
-pass_by (a ∷ b ∷ c ∷ []) = Bad
-pass_by (a ∷ b ∷ c ∷ d ∷ []) = Bad
+unfoldable pub pass_by : List (List ℕ) → Option Line
+pass_by [] = None
+pass_by (a ∷ []) = None
+pass_by (a ∷ b ∷ []) = None
+pass_by (a ∷ b ∷ c ∷ []) = None
+pass_by (a ∷ b ∷ c ∷ d ∷ []) = None
 pass_by (a ∷ b ∷ c ∷ d ∷ e ∷ []) =
-    cond (is_quarters a && (is_quarters b && (is_quarters c && (is_quarters d && is_quarters e)))) (Pass (value_of a) (value_of b) (value_of c) (value_of d) (value_of e)) Bad
-pass_by (a ∷ b ∷ c ∷ d ∷ e ∷ f ∷ fs) = Bad
+    cond (is_quarters a && (is_quarters b && (is_quarters c && (is_quarters d && is_quarters e)))) (Some (Pass (value_of a) (value_of b) (value_of c) (value_of d) (value_of e))) None
+pass_by (a ∷ b ∷ c ∷ d ∷ e ∷ f ∷ fs) = None
 
-unfoldable pub undo_by : List (List ℕ) → Line
-undo_by [] = Undo
-undo_by (a ∷ fs) = Bad
+unfoldable pub undo_by : List (List ℕ) → Option Line
+undo_by [] = Some Undo
+undo_by (a ∷ fs) = None
 
 -- a word, then its numbers
-unfoldable pub meant_by : List (List ℕ) → Line
-meant_by [] = Bad
-meant_by (w ∷ fs) = cond (same w map_word) (map_by fs) (cond (same w pass_word) (pass_by fs) (cond (same w undo_word) (undo_by fs) Bad))
+unfoldable pub meant_by : List (List ℕ) → Option Line
+meant_by [] = None
+meant_by (w ∷ fs) = cond (same w map_word) (map_by fs) (cond (same w pass_word) (pass_by fs) (cond (same w undo_word) (undo_by fs) None))
 
--- a line, without its line feed
-unfoldable pub meaning_of : List ℕ → Line
+-- a line, without its line feed; a bad one means nothing
+unfoldable pub meaning_of : List ℕ → Option Line
 meaning_of l = meant_by (fields_of l)

@@ -1,11 +1,9 @@
 -- The bench hears its input byte by byte: a line is obeyed, by what it means, where it ends. Definitions only.
-use Rattle.std.specs.Prelude.{ℕ, ◌+◌, ◌%◌, ◌^◌, Bool, true, false, cond, List, [], ◌∷◌, ◌++◌, length, get_or, eqb}
+use Rattle.std.specs.Prelude.{ℕ, ◌+◌, ◌%◌, ◌^◌, Bool, true, false, cond, List, [], ◌∷◌, ◌++◌, length, get_or, eqb, is_none}
 use Rattle.loops.specs.Loop.{loop}
 use Rattle.bench_lines.specs.Meaning.{meaning_of}
 use Rattle.bench_lines.specs.Obey.{no_map, obeyed}
 use Rattle.bench_lines.specs.declared.obey.Bench.{Bench}
-use Rattle.bench_lines.specs.declared.obey.Answer.{Answer}
-use Rattle.bench_lines.specs.declared.obey.Answer.TheVariants.{Started, Removed, Restored, Wrong}
 
 -- the bench with its map and log; the bytes of the present line, and its number; whether a bad line has ended all
 pub record Heard : Type 0 where
@@ -23,17 +21,11 @@ heard b m l line n e = record { bench = b; cells = m; log = l; line = line; numb
 unfoldable pub silent : List ℕ → List ℕ → Heard
 silent m l = heard no_map m l [] 1 false
 
-unfoldable pub is_wrong : Answer → Bool
-is_wrong (Started s) = false
-is_wrong (Removed r s) = false
-is_wrong (Restored s) = false
-is_wrong Wrong = true
-
--- the line ends here
+-- the line ends here; one without an answer ends all
 unfoldable pub line_heard : Heard → Heard
 line_heard h =
     let o = obeyed h.bench (meaning_of h.line) h.cells h.log in
-    heard o.done.bench o.cells o.log [] ((h.number + 1) % 2 ^ 64) (is_wrong o.done.answer)
+    heard o.done.bench o.cells o.log [] ((h.number + 1) % 2 ^ 64) (is_none o.done.answer)
 
 -- one byte more; 10 is the line feed. After a bad line nothing is heard
 unfoldable pub byte_heard : ℕ → Heard → Heard

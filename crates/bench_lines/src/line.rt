@@ -1,61 +1,64 @@
-// A line: `map` and two sides, `pass` and five numbers, `undo`, or a bad one.
+// A line: `map` and two sides, `pass` and five numbers, or `undo`. A bad one is none of them.
+#![tactic(auto, unfolding(crate::specs::Line::side_of, crate::specs::Line::map_of, crate::specs::Line::pass_of, crate::specs::Line::undo_of, crate::specs::Line::word_of, crate::specs::Line::line_of))]
+
 ghost use Rattle.std.specs.Prelude.{◌≡◌};
 ghost use Rattle.bench_lines.specs.Line.{side_of, map_of, pass_of, undo_of, word_of, line_of};
 
 use super::words::Words;
 
+// Columns and rows.
+#[derive(Clone, Copy)]
+pub struct Sides {
+    pub nx: usize,
+    pub ny: usize,
+}
+
 #[derive(Clone, Copy)]
 pub enum Line {
-    // Columns and rows.
-    Map(usize, usize),
+    Map(Sides),
     // From x, y to x, y at a radius, in quarter cells.
     Pass(usize, usize, usize, usize, usize),
     Undo,
-    Bad,
 }
 
 fn is_side(n: usize) -> bool
     ensures { result ≡ side_of n }
 {
-    if 0 < n {
-        return n <= 64;
-    }
-    false
+    0 < n && n <= 64
 }
 
-fn map_line(w: Words) -> Line
+fn map_line(w: Words) -> Option<Line>
     ensures { result ≡ map_of w }
 {
-    if w.count == 2 {
-        if is_side(w.d) {
-            if is_side(w.last) {
-                return Line::Map(w.d, w.last);
-            }
-        }
+    if w.count == 2 && is_side(w.d) && is_side(w.last) {
+        return Some(Line::Map(Sides {
+            nx: w.d,
+            ny: w.last,
+        }));
     }
-    Line::Bad
+    None
 }
 
-fn pass_line(w: Words) -> Line
+fn pass_line(w: Words) -> Option<Line>
     ensures { result ≡ pass_of w }
 {
     if w.count == 5 {
-        return Line::Pass(w.a, w.b, w.c, w.d, w.last);
+        return Some(Line::Pass(w.a, w.b, w.c, w.d, w.last));
     }
-    Line::Bad
+    None
 }
 
-fn undo_line(w: Words) -> Line
+fn undo_line(w: Words) -> Option<Line>
     ensures { result ≡ undo_of w }
 {
     if w.count == 0 {
-        return Line::Undo;
+        return Some(Line::Undo);
     }
-    Line::Bad
+    None
 }
 
 // By the word: the letters of map, pass and undo, eight bits each.
-fn by_word(w: Words) -> Line
+fn by_word(w: Words) -> Option<Line>
     ensures { result ≡ word_of w }
 {
     if w.word == 0x6d_6170 {
@@ -67,18 +70,16 @@ fn by_word(w: Words) -> Line
     if w.word == 0x756e_646f {
         return undo_line(w);
     }
-    Line::Bad
+    None
 }
 
 // The line that ends here.
-pub fn finish(w: Words) -> Line
-    ensures { result ≡ line_of w }
+pub fn finish(words: Option<Words>) -> Option<Line>
+    ensures { result ≡ line_of words }
 {
-    if w.bad {
-        return Line::Bad;
-    }
+    let w = words?;
     if w.empty {
-        return Line::Bad;
+        return None;
     }
     by_word(w)
 }

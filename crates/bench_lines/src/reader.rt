@@ -8,11 +8,10 @@ use super::obey::{Bench, Done, obey};
 use super::words::Words;
 
 // The line that ends here, obeyed.
-pub fn line_end(b: Bench, w: Words, map: &mut [u8], log: &mut [u32]) -> Done
+pub fn line_end(b: Bench, words: Option<Words>, map: &mut [u8], log: &mut [u32]) -> Done
     requires { Fit b map.old log.old }
-    ensures log_after { out result map.new log.new ≡ obeyed b (line_of w) map.old log.old }
+    ensures log_after { out result map.new log.new ≡ obeyed b (line_of words) map.old log.old }
     ensures fit { Fit result.bench map.new log.new }
 {
-    let l = finish(w);
-    obey(b, l, map, log)
+    obey(b, finish(words), map, log)
 }

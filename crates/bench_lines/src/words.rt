@@ -1,11 +1,12 @@
 // What has been read of a line: a word of small letters, then numbers, each after one tab. A byte at a
 // time, so that a line of any length takes no room.
+#![tactic(auto, unfolding(crate::specs::Words::next_field, crate::specs::Words::letter_of, crate::specs::Words::later_digit, crate::specs::Words::digit_of, crate::specs::Words::step_of))]
+
 ghost use Rattle.std.specs.Prelude.{◌≡◌};
-ghost use Rattle.bench_lines.specs.Words.{no_words, spoilt, next_field, letter_of, first_digit, later_digit, digit_of, step_of};
+ghost use Rattle.bench_lines.specs.Words.{no_words, next_field, letter_of, first_digit, later_digit, digit_of, step_of};
 
 #[derive(Clone, Copy)]
 pub struct Words {
-    pub bad: bool,
     // Nothing yet of the present field.
     pub empty: bool,
     // How many numbers, the present one included.
@@ -24,7 +25,6 @@ pub fn begin() -> Words
     ensures { result ≡ no_words }
 {
     Words {
-        bad: false,
         empty: true,
         count: 0,
         word: 0,
@@ -36,109 +36,81 @@ pub fn begin() -> Words
     }
 }
 
-fn spoil(w: Words) -> Words
-    ensures { result ≡ spoilt w }
-{
-    let mut r = w;
-    r.bad = true;
-    r
-}
-
 // A tab: no field is empty, and none has more than five numbers.
-fn next_field(w: Words) -> Words
+fn next_field(w: Words) -> Option<Words>
     ensures { result ≡ next_field w }
 {
-    if w.empty {
-        return spoil(w);
+    if w.empty || 4 < w.count {
+        return None;
     }
-    let count = w.count;
-    if 4 < count {
-        return spoil(w);
-    }
-    Words {
-        bad: w.bad,
+    Some(Words {
         empty: true,
-        count: count + 1,
-        word: w.word,
+        count: w.count + 1,
         a: w.b,
         b: w.c,
         c: w.d,
         d: w.last,
         last: 0,
-    }
+        ..w
+    })
 }
 
 // Small letters alone, so that no two words of up to four have one number.
-fn letter(w: Words, c: u8) -> Words
+fn letter(w: Words, c: u8) -> Option<Words>
     ensures { result ≡ letter_of c w }
 {
-    let word = w.word;
-    if c < b'a' {
-        return spoil(w);
+    if !c.is_ascii_lowercase() || 0xff_ffff < w.word {
+        return None;
     }
-    if b'z' < c {
-        return spoil(w);
-    }
-    if 0xff_ffff < word {
-        return spoil(w);
-    }
-    let mut r = w;
-    r.empty = false;
-    r.word = word * 256 + c as usize;
-    r
+    Some(Words {
+        empty: false,
+        word: w.word * 256 + c as usize,
+        ..w
+    })
 }
 
 fn first_digit(w: Words, n: usize) -> Words
     ensures { result ≡ first_digit n w }
 {
-    let mut r = w;
-    r.empty = false;
-    r.last = n;
-    r
+    Words {
+        empty: false,
+        last: n,
+        ..w
+    }
 }
 
 // A zero is not followed by a digit, and no number is above 1,000.
-fn later_digit(w: Words, n: usize) -> Words
+fn later_digit(w: Words, n: usize) -> Option<Words>
     ensures { result ≡ later_digit n w }
 {
-    let last = w.last;
-    if last == 0 {
-        return spoil(w);
+    if w.last == 0 || 1000 < w.last {
+        return None;
     }
+    let last = w.last * 10 + n % 10;
     if 1000 < last {
-        return spoil(w);
+        return None;
     }
-    if 1000 < last * 10 + n % 10 {
-        return spoil(w);
-    }
-    let mut r = w;
-    r.last = last * 10 + n % 10;
-    r
+    Some(Words { last, ..w })
 }
 
-fn digit(w: Words, c: u8) -> Words
+fn digit(w: Words, c: u8) -> Option<Words>
     ensures { result ≡ digit_of c w }
 {
-    if c < b'0' {
-        return spoil(w);
-    }
-    if b'9' < c {
-        return spoil(w);
+    if !c.is_ascii_digit() {
+        return None;
     }
     let n = (c - b'0') as usize;
     if w.empty {
-        return first_digit(w, n);
+        return Some(first_digit(w, n));
     }
     later_digit(w, n)
 }
 
-// One byte more. A bad line stays bad.
-pub fn step(w: Words, c: u8) -> Words
-    ensures { result ≡ step_of c w }
+// One byte more. A bad line, which says nothing, stays bad.
+pub fn step(words: Option<Words>, c: u8) -> Option<Words>
+    ensures { result ≡ step_of c words }
 {
-    if w.bad {
-        return w;
-    }
+    let w = words?;
     if c == b'\t' {
         return next_field(w);
     }

@@ -1,5 +1,5 @@
 -- A talk, with the lent map and log, is what the bench has heard so far. Definitions only.
-use Rattle.std.specs.Prelude.{◌≡◌, ℕ, ◌≤◌, List, length}
+use Rattle.std.specs.Prelude.{◌≡◌, ℕ, ◌≤◌, List, length, Option}
 use Rattle.loops.specs.Loop.{loop}
 use Rattle.bench_lines.specs.Meaning.{meaning_of}
 use Rattle.bench_lines.specs.Obey.{obeyed}
@@ -18,8 +18,8 @@ pub record Hears (t : Talk) (m l : List ℕ) (h : Heard) : Type 0 where
   pub number : t.number ≡ h.number
   pub ended : t.ended ≡ h.ended
 
--- the answer to the line that ends here
-unfoldable pub answer_to : Heard → Answer
+-- the answer to the line that ends here; a bad one has none
+unfoldable pub answer_to : Heard → Option Answer
 answer_to h = (obeyed h.bench (meaning_of h.line) h.cells h.log).done.answer
 
 -- the lent map and log are those of what has been heard

@@ -3,23 +3,25 @@
 
 ghost use Rattle.std.specs.Prelude.{◌≡◌, ℕ, List, IfOk, OnErr};
 ghost use Rattle.bench_lines.specs.Obey.{Fit, no_map};
-ghost use Rattle.bench_lines.specs.Reader.{Heard, silent, is_wrong, line_heard, byte_heard, heard_of, end_heard};
+ghost use Rattle.bench_lines.specs.Reader.{Heard, silent, line_heard, byte_heard, heard_of, end_heard};
 ghost use Rattle.bench_talk.specs.Hears.{Hears, Left, LeftWithin, answer_to};
 
-use bench_lines::obey::{Answer, Bench};
+use bench_lines::obey::{Answer, Bench, Done};
 use bench_lines::reader::line_end;
 use bench_lines::words::{Words, begin, step};
 use std::io;
 
+// `Fit` joins its bench with the lent map and log: a struct of all three would hold two `&mut` slices, and each contract
+// would name them through it.
 #[derive(Clone, Copy)]
 pub struct Talk {
     pub bench: Bench,
-    pub words: Words,
+    pub words: Option<Words>,
     // There is a byte of the present line.
     pub begun: bool,
     // The present line's number, from 1.
     pub number: u64,
-    // A bad line has been named.
+    // A bad line has been named. What was heard before it stays, so this is no Option of the rest.
     pub ended: bool,
 }
 
@@ -29,62 +31,36 @@ pub fn start() -> Talk
 {
     Talk {
         bench: bench_lines::obey::start(),
-        words: begin(),
+        words: Some(begin()),
         begun: false,
         number: 1,
         ended: false,
     }
 }
 
-fn say(rt: &impl Print, a: Answer, line: u64) -> io::Result<()> {
+fn say(rt: &impl Print, a: Option<Answer>, line: u64) -> io::Result<()> {
     match a {
-        Answer::Started(standing) => println!(rt; "map {standing}"),
-        Answer::Removed(removed, standing) => println!(rt; "pass {removed} {standing}"),
-        Answer::Restored(standing) => println!(rt; "undo {standing}"),
-        Answer::Wrong => println!(rt; "bad {line}"),
+        Some(answer) => println!(rt; "{answer}"),
+        None => println!(rt; "bad {line}"),
     }
 }
 
-fn is_wrong(a: Answer) -> bool
-    ensures { result ≡ is_wrong a }
-{
-    match a {
-        Answer::Started(_) => false,
-        Answer::Removed(_, _) => false,
-        Answer::Restored(_) => false,
-        Answer::Wrong => true,
-    }
-}
-
-// What a line comes to: the talk after it, and the answer that is to be written.
-#[derive(Clone, Copy)]
-struct Turn {
-    talk: Talk,
-    answer: Answer,
-}
-
-// The line ends here.
-fn line(t: Talk, map: &mut [u8], log: &mut [u32]) -> Turn
+// The line ends here: the talk after it, and the answer that is to be written.
+fn line(t: Talk, map: &mut [u8], log: &mut [u32]) -> (Talk, Option<Answer>)
     requires { Fit t.bench map.old log.old }
-    ensures fit { Fit result.talk.bench map.new log.new }
-    ensures hears { (h : Heard) → Hears t map.old log.old h → Hears result.talk map.new log.new (line_heard h) }
-    ensures answer { (h : Heard) → Hears t map.old log.old h → result.answer ≡ answer_to h }
+    ensures fit { Fit result.0.bench map.new log.new }
+    ensures hears { (h : Heard) → Hears t map.old log.old h → Hears result.0 map.new log.new (line_heard h) }
+    ensures answer { (h : Heard) → Hears t map.old log.old h → result.1 ≡ answer_to h }
 {
-    let b = t.bench;
-    let w = t.words;
-    let d = line_end(b, w, map, log);
-    let after = d.bench;
-    let answer = d.answer;
-    Turn {
-        talk: Talk {
-            bench: after,
-            words: begin(),
-            begun: false,
-            number: std::num::wrapping_add_u64(t.number, 1),
-            ended: is_wrong(answer),
-        },
-        answer,
-    }
+    let Done { bench, answer } = line_end(t.bench, t.words, map, log);
+    let talk = Talk {
+        bench,
+        words: Some(begin()),
+        begun: false,
+        number: t.number.wrapping_add(1),
+        ended: answer.is_none(),
+    };
+    (talk, answer)
 }
 
 // The line ends here, and its answer is written.
@@ -94,9 +70,9 @@ fn answered(rt: &impl Print, t: Talk, map: &mut [u8], log: &mut [u32]) -> io::Re
     ensures hears { (h : Heard) → Hears t map.old log.old h → IfOk result (λ r. Hears r map.new log.new (line_heard h)) }
     ensures left { (h : Heard) → Hears t map.old log.old h → OnErr result (Left map.new log.new (line_heard h)) }
 {
-    let turn = line(t, map, log);
-    say(rt, turn.answer, t.number)?;
-    Ok(turn.talk)
+    let (after, answer) = line(t, map, log);
+    say(rt, answer, t.number)?;
+    Ok(after)
 }
 
 // One byte more. After a bad line nothing is said. Where an answer cannot be written, the byte has been heard.
@@ -112,14 +88,10 @@ pub fn byte(rt: &impl Print, t: Talk, c: u8, map: &mut [u8], log: &mut [u32]) ->
     if c == b'\n' {
         return answered(rt, t, map, log);
     }
-    let b = t.bench;
-    let w = t.words;
     Ok(Talk {
-        bench: b,
-        words: step(w, c),
+        words: step(t.words, c),
         begun: true,
-        number: t.number,
-        ended: false,
+        ..t
     })
 }
 
@@ -137,8 +109,8 @@ pub fn bytes(
     ensures left { (h : Heard) → Hears start map.old log.old h → OnErr result (LeftWithin read.now map.new log.new h) }
 {
     let mut t = start;
-    for i in 0..read.len() {
-        t = byte(rt, t, read[i], map, log)?;
+    for &c in read {
+        t = byte(rt, t, c, map, log)?;
     }
     Ok(t)
 }

@@ -1,5 +1,8 @@
-// Floats and their bit patterns, with one pattern for every NaN, as stored answers have them.
+// Floats and their bit patterns, with one pattern for every NaN, and numbers in hexadecimal digits, as stored
+// answers have them.
 #![tactic(auto)]
+
+pub mod hex;
 
 ghost use Rattle.std.specs.Prelude.{◌≡◌};
 ghost use Rattle.std.specs.Float.{binary32, binary64};

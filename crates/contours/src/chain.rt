@@ -7,7 +7,7 @@ ghost use Rattle.contours.specs.Square.{Joins};
 ghost use Rattle.contours.specs.Chain.{extended, put_kept, edge_point, Chaining, Followed, starts_at};
 ghost use Rattle.contours.specs.Traced.{segments_at, slices, Startable, Tracing, TakenUp, Started, AllStarted};
 
-use super::edge::{EdgeNo, crossing, edge_at, index_of_edge, is_nothing, same_edge};
+use super::edge::{EdgeNo, NOTHING, crossing, edge_at};
 use super::places::{next_at, rows_at, words_end};
 use super::tables::{is_used, next_of, use_edge};
 use geom::vec2::Vec2;
@@ -65,15 +65,16 @@ fn chain(
     geom::points::put(pts, first, p);
     let mut cur = s;
     let mut t = Trail { kept: 1, last: p };
+    // From edge to edge as they lead on, which no iterator does.
     loop {
         let n = next_of(next, cur);
-        if is_nothing(n) {
+        if n == NOTHING {
             return Chained {
                 kept: t.kept,
                 closed: false,
             };
         }
-        if same_edge(n, s) {
+        if n == s {
             return Chained {
                 kept: t.kept,
                 closed: true,
@@ -158,7 +159,7 @@ fn start_at(
     requires between { Between g s }
     ensures { Started g f.now level n first s.0 c (slices words.old marks.old pts.old) result (slices words.new marks.new pts.new) }
 {
-    if starts(first, marks[index_of_edge(s)]) {
+    if starts(first, marks[usize::from(s)]) {
         return take_up(g, f, level, n, words, marks, pts, c, s);
     }
     c

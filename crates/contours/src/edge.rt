@@ -1,35 +1,25 @@
 // The edges between neighbouring cell centres, and where a field crosses a level on one. The number of
 // an edge is twice its lower cell's, and one more where it goes up.
-ghost use Rattle.std.specs.Prelude.{◌≡◌, ◌^◌, ◌<◌, length, ◌==◌, slice_index, slice_set};
+ghost use Rattle.std.specs.Prelude.{◌≡◌, ◌^◌, ◌<◌, length, slice_index, slice_set};
 ghost use Rattle.raster.specs.Grid.{Sides, Over};
-ghost use Rattle.contours.specs.Edge.{edge, nothing, same_edge, across_of, upward_of, lower_of, is_upward, Between, far_of, far_center, along_of, crossing_at};
+ghost use Rattle.contours.specs.Edge.{edge, across_of, upward_of, lower_of, is_upward, Between, far_of, far_center, along_of, crossing_at};
 
 use geom::vec2::Vec2;
 use raster::grid::{CellNo, Grid, cell_at, center, column_of, index_of, row_of};
 
 // The number of an edge, or NOTHING where there is none.
-#[derive(Clone, Copy)]
+#[derive(Clone, Copy, PartialEq, Eq)]
 pub struct EdgeNo(pub u32);
 
-pub const NOTHING: u32 = 4294967295;
-
-pub fn is_nothing(e: EdgeNo) -> bool
-    ensures { result ≡ (e.0 == nothing) }
-{
-    e.0 == NOTHING
-}
-
-pub fn same_edge(a: EdgeNo, b: EdgeNo) -> bool
-    ensures { result ≡ same_edge a b }
-{
-    a.0 == b.0
-}
+pub const NOTHING: EdgeNo = EdgeNo(4294967295);
 
 // An edge's place in a table.
-pub fn index_of_edge(e: EdgeNo) -> usize
-    ensures { result ≡ e.0 }
-{
-    e.0 as usize
+impl From<EdgeNo> for usize {
+    ghost from_gives = { λ e i. i ≡ e.0 };
+
+    fn from(e: EdgeNo) -> usize {
+        e.0 as usize
+    }
 }
 
 // The edge that the words have at i.

@@ -161,6 +161,7 @@ fn march_row(g: Grid, f: &[f32], level: f32, segs: &mut [u32], n: usize, j: usiz
 {
     let last = g.nx - 1;
     let mut m = n;
+    // Run by run: the last one is shorter, which a range's steps do not tell.
     let mut a = 0;
     while a < last {
         let e = run_end(a, last);

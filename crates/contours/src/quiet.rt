@@ -14,14 +14,14 @@ struct Signs {
 
 // Of the values from..to. There is no way out of the loop, so that many are compared at once.
 fn signs_of(f: &[f32], level: f32, from: usize, to: usize) -> Signs
-    requires { to ≤ length f.now }
+    requires { (from ≤ to) × (to ≤ length f.now) }
     ensures { result ≡ signs_of f.now level from to }
 {
     let mut above = false;
     let mut below = false;
-    for k in from..to {
-        above = above | (f[k] > level);
-        below = below | (f[k] <= level);
+    for &v in &f[from..to] {
+        above |= v > level;
+        below |= v <= level;
     }
     Signs { above, below }
 }

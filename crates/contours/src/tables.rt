@@ -6,32 +6,31 @@ ghost use Rattle.contours.specs.Edge.{edge};
 ghost use Rattle.contours.specs.March.{march};
 ghost use Rattle.contours.specs.Traced.{Listed, Inserted, Sized, Tabled};
 
-use super::edge::{EdgeNo, NOTHING, edge_at, index_of_edge, put_edge};
+use super::edge::{EdgeNo, NOTHING, edge_at, put_edge};
 use super::march::march;
 use super::places::{next_at, rows_at};
 use raster::grid::Grid;
-use setup::fill::{fill_bytes, fill_words};
 
 // The edge after e.
 pub fn next_of(next: &[u32], e: EdgeNo) -> EdgeNo
     requires { e.0 < length next.now }
     ensures { result ≡ edge (slice_index next.now e.0) }
 {
-    edge_at(next, index_of_edge(e))
+    edge_at(next, usize::from(e))
 }
 
 pub fn is_used(marks: &[u8], e: EdgeNo) -> bool
     requires { e.0 < length marks.now }
     ensures { result ≡ (slice_index marks.now e.0 == 1) }
 {
-    marks[index_of_edge(e)] == 1
+    marks[usize::from(e)] == 1
 }
 
 pub fn use_edge(marks: &mut [u8], e: EdgeNo)
     requires { e.0 < length marks.old }
     ensures { marks.new ≡ slice_set marks.old e.0 1 }
 {
-    marks[index_of_edge(e)] = 1;
+    marks[usize::from(e)] = 1;
 }
 
 // The m segments in turn: of those that leave one edge, the last one counts.
@@ -44,8 +43,8 @@ fn insert_all(n: usize, m: usize, words: &mut [u32], marks: &mut [u8])
         let i = 2 * k;
         let from = edge_at(words, i);
         let to = edge_at(words, i + 1);
-        put_edge(words, next + index_of_edge(from), to);
-        marks[index_of_edge(to)] = 2;
+        put_edge(words, next + usize::from(from), to);
+        marks[usize::from(to)] = 2;
     }
 }
 
@@ -65,8 +64,8 @@ pub fn tabulate(
     let next = next_at(n);
     let rows = rows_at(n);
     let m = march(g, f, level, &mut words[0..next]);
-    fill_words(&mut words[next..rows], NOTHING);
-    fill_bytes(marks, 0);
+    words[next..rows].fill(NOTHING.0);
+    marks.fill(0);
     insert_all(n, m, words, marks);
     m
 }

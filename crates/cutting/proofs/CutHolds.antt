@@ -5,9 +5,7 @@ use mathlib.Core.List.{List, [], ◌∷◌, ◌++◌, append-nil}
 use Prim.Native.Nat.{ℕ, ◌+◌, ◌-◌, ◌*◌, ◌/◌, ◌≤◌}
 use native.Mathlib.Omega.{arith}
 use lib.ListN.{length, length-append}
-use lib.Dec.{eqb}
 use lib.Ieee.{Float}
-use borrow.Author.Tests.{eqb-true}
 use Rattle.loops.proofs.Cases.{by_test}
 use Rattle.geom.specs.declared.vec2.Vec2.{Vec2}
 use Rattle.raster.specs.Log.{st, Ready}
@@ -24,13 +22,16 @@ use Rattle.passes.specs.Attempt.{Outcome}
 use Rattle.setup.specs.Made.{Measured}
 use Rattle.cutting.specs.Tries.{Tries, tries_of}
 use Rattle.cutting.specs.Way.{route_of, way_chunks}
-use Rattle.cutting.specs.Listing.{needs, refusal_of}
-use Rattle.cutting.specs.Piece.{spending, Left, WithEvents, lf, listed_of, kept_of, went_of, worthy_of, after_tries, cut_piece_of}
+use Rattle.cutting.specs.Listing.{needs, room_of}
+use Rattle.cutting.specs.Piece.{spending, Left, WithEvents, lf, listed_of, kept_where, kept_of, went_of, worthy_of, after_tries, cut_piece_of}
 use Rattle.cutting.specs.declared.piece.State.{State as Plan}
+use Rattle.std.specs.Prelude.{Result, Ok, Err}
+use Rattle.cutting.specs.declared.listing.Full.TheVariants.{Triples}
+use Rattle.cutting.specs.declared.listing.Full.{Full}
 use Rattle.cutting.specs.declared.piece.Cut.{Cut}
-use Rattle.cutting.specs.declared.piece.Cut.TheVariants.{Nothing, Kept, Refused}
+use Rattle.cutting.specs.declared.piece.Cut.TheVariants.{Nothing, Kept}
 use Rattle.cutting.proofs.ListingLaws.{rows_long, way-singles}
-use Rattle.cutting.proofs.RefusalLaws.{needs_are, refusal_none}
+use Rattle.cutting.proofs.RoomLaws.{needs_are, room-fits}
 use Rattle.cutting.proofs.ListedLaws.{listed-holds, gap-long}
 use Rattle.cutting.proofs.TriesKeep.{tries_long, tries_room}
 use Rattle.cutting.proofs.TriesHolds.{tries_stand}
@@ -39,10 +40,10 @@ use Rattle.cutting.proofs.CutLegal.{listed_by, new_after}
 -- ---- the claim
 
 -- the plan's numbers of rows and triples are those of the chunks cs; a refusal ends the plan
-abbrev pub Counts : Cut → List Chunk → Type 0
-Counts (Nothing t) cs = (length cs ≡ t.rows) × (length (all_triples cs) ≡ t.triples)
-Counts (Kept t) cs = (length cs ≡ t.rows) × (length (all_triples cs) ≡ t.triples)
-Counts (Refused n) cs = Unit {0}
+abbrev pub Counts : Result Cut Full → List Chunk → Type 0
+Counts (Ok (Nothing t)) cs = (length cs ≡ t.rows) × (length (all_triples cs) ≡ t.triples)
+Counts (Ok (Kept t)) cs = (length cs ≡ t.rows) × (length (all_triples cs) ≡ t.triples)
+Counts (Err f) cs = Unit {0}
 
 -- the slices rows and o held cs; `new` are the chunks of a pass that is kept
 pub record CutHolds (rows : List ℕ) (o : List Float) (cs new : List Chunk) (l : Left) : Type 0 where
@@ -64,7 +65,7 @@ module _ (s : Setup) (w : Way) (removed n : ℕ) (t : Plan) (m d log rows : List
   abbrev new : List Chunk
   new = ms ++ (cut ps ∷ [])
 
-  refused-holds : (x : Cut) → listed_by x new ≡ [] → Counts x cs → CutHolds rows o cs new (lf m d log rows o x)
+  refused-holds : (x : Result Cut Full) → listed_by x new ≡ [] → Counts x cs → CutHolds rows o cs new (lf m d log rows o x)
   refused-holds x e k =
       let z : cs ≡ cs ++ listed_by x new = sym (append-nil cs) ∙ ap (λ (l : List Chunk). cs ++ l) (sym e) in
       record {
@@ -75,10 +76,10 @@ module _ (s : Setup) (w : Way) (removed n : ℕ) (t : Plan) (m d log rows : List
       }
 
   module _ (some-point : 1 ≤ n) where
-    listed_fit : refusal_of (length o / 3 - t.triples) (length rows / 3 - t.rows) (needs new) ≡ 0
+    listed_fit : room_of (length o / 3 - t.triples) (length rows / 3 - t.rows) (needs new) ≡ Ok tt
         → ((t.triples + length ms + n) * 3 ≤ length o) × ((t.rows + length ms + 1) * 3 ≤ length rows)
     listed_fit e =
-        let r = refusal_none (length o / 3 - t.triples) (length rows / 3 - t.rows) (length ms) (length ps) (sym (needs_are _ _ w (spot_at o t.triples) ps) ∙ e) in
+        let r = room-fits (length o / 3 - t.triples) (length rows / 3 - t.rows) (length ms) (length ps) (sym (needs_are _ _ w (spot_at o t.triples) ps) ∙ e) in
         let a = r.0 in
         let b = r.1 in
         let l = points-long o t.triples n in
@@ -103,12 +104,13 @@ module _ (s : Setup) (w : Way) (removed n : ℕ) (t : Plan) (m d log rows : List
         }
 
     kept-holds : CutHolds rows o cs new (kept_of s w removed n t m d log rows o).left
-    unfolding kept_of
+    unfolding kept_of kept_where
     kept-holds =
-        let no : ℕ = refusal_of (length o / 3 - t.triples) (length rows / 3 - t.rows) (needs new) in
-        by_test (λ (q : WithEvents). CutHolds rows o cs new q.left) (eqb no 0) _ _
-        (λ b. let f = listed_fit (eqb-true no 0 b) in listed_there f.0 f.1)
-        (λ b. refused-holds (Refused no) refl tt)
+        where_holds (room_of (length o / 3 - t.triples) (length rows / 3 - t.rows) (needs new)) refl
+      where
+        where_holds : (r : Result Unit Full) → room_of (length o / 3 - t.triples) (length rows / 3 - t.rows) (needs new) ≡ r → CutHolds rows o cs new (kept_where s w removed n t m d log rows o r).left
+        where_holds (Ok u) e = let f = listed_fit e in listed_there f.0 f.1
+        where_holds (Err f) e = refused-holds (Err f) refl tt
 
 -- ---- the piece
 
@@ -126,13 +128,13 @@ module _ (s : Setup) (wall vs : List Float) (lens allowed : List ℕ) (pts : Lis
       let to : Vec2 = spot_at c.out t.triples in
       let r : Linked = route_of s wall vs lens m allowed t.pos to in
       let P : WithEvents → Type 0 = λ x. CutHolds rows c.out cs (new_by c) x.left in
-      let still : (x : Cut) → listed_by x (new_by c) ≡ [] → Counts x cs → CutHolds rows c.out cs (new_by c) (lf m d c.log rows c.out x) =
+      let still : (x : Result Cut Full) → listed_by x (new_by c) ≡ [] → Counts x cs → CutHolds rows c.out cs (new_by c) (lf m d c.log rows c.out x) =
       refused-holds s r.path c.attempt.removed c.attempt.points t m d c.log rows c.out cs A B h in
       by_test P c.attempt.full _ _
-      (λ b. still (Refused 16) refl tt)
+      (λ b. still (Err Triples) refl tt)
       (λ b. by_test P c.attempt.worth _ _
       (λ e. kept-holds s r.path c.attempt.removed c.attempt.points (spending r.work (spending c.attempt.work t)) m d c.log rows c.out cs A B h (g b e))
-      (λ e. still (Nothing (spending c.attempt.work t)) refl (A, B)))
+      (λ e. still (Ok (Nothing (spending c.attempt.work t))) refl (A, B)))
 
   pub cut_holds : (o : List Float) → Holds rows o cs
       → CutHolds rows o cs (new_by (tries_of s (allowed_at s wall vs lens) pts closed t.pos t.triples m log o).outcome) (cut_piece_of s wall vs lens allowed pts closed t m d rows log o).left

@@ -6,7 +6,6 @@ use mathlib.Core.Option.{Option, none, some}
 use Prim.Native.Nat.{ℕ, suc, ◌+◌, ◌-◌, ◌/◌}
 use native.Mathlib.Omega.{arith}
 use lib.ListN.{length}
-use lib.Dec.{eqb}
 use lib.Ieee.{Float}
 use Rattle.loops.proofs.Cases.{by_test}
 use Rattle.geom.specs.declared.vec2.Vec2.{Vec2}
@@ -29,11 +28,14 @@ use Rattle.setup.specs.Made.{Measured}
 use Rattle.passes.specs.Tried.{job_at}
 use Rattle.cutting.specs.Tries.{Tries, tries_of}
 use Rattle.cutting.specs.Way.{route_of, way_chunks}
-use Rattle.cutting.specs.Listing.{needs, refusal_of}
-use Rattle.cutting.specs.Piece.{spending, WithEvents, with_events, lf, way_events, listed_of, kept_of, went_of, worthy_of, after_tries, cut_piece_of}
+use Rattle.cutting.specs.Listing.{needs, room_of}
+use Rattle.cutting.specs.Piece.{spending, WithEvents, with_events, lf, way_events, listed_of, kept_where, kept_of, went_of, worthy_of, after_tries, cut_piece_of}
 use Rattle.cutting.specs.declared.piece.State.{State as Plan}
+use Rattle.std.specs.Prelude.{Result, Ok, Err}
+use Rattle.cutting.specs.declared.listing.Full.TheVariants.{Triples}
+use Rattle.cutting.specs.declared.listing.Full.{Full}
 use Rattle.cutting.specs.declared.piece.Cut.{Cut}
-use Rattle.cutting.specs.declared.piece.Cut.TheVariants.{Nothing, Kept, Refused}
+use Rattle.cutting.specs.declared.piece.Cut.TheVariants.{Nothing, Kept}
 use Rattle.cutting.proofs.WayLegal.{position_of, way-places, Leads, route_leads, way_goes, way_leaves, keep_checked, keep_leaves}
 use Rattle.cutting.proofs.TryLegal.{TriesLegal}
 use Rattle.cutting.proofs.TriesLegal.{Idle, from-idle, tries_legal}
@@ -41,16 +43,16 @@ use Rattle.cutting.proofs.TriesLegal.{Idle, from-idle, tries_legal}
 -- ---- the claim
 
 -- what was listed: the chunks `new` of a pass that was kept
-abbrev pub listed_by : Cut → List Chunk → List Chunk
-listed_by (Nothing t) new = []
-listed_by (Kept t) new = new
-listed_by (Refused n) new = []
+abbrev pub listed_by : Result Cut Full → List Chunk → List Chunk
+listed_by (Ok (Nothing t)) new = []
+listed_by (Ok (Kept t)) new = new
+listed_by (Err f) new = []
 
 -- where the tool is then; p is where it was
-abbrev pub placed_by : Cut → Option Vec2 → Option Vec2
-placed_by (Nothing t) p = position_of t.pos
-placed_by (Kept t) p = position_of t.pos
-placed_by (Refused n) p = p
+abbrev pub placed_by : Result Cut Full → Option Vec2 → Option Vec2
+placed_by (Ok (Nothing t)) p = position_of t.pos
+placed_by (Ok (Kept t)) p = position_of t.pos
+placed_by (Err f) p = p
 
 -- from the state e, with the map m and the log's slice `log`
 pub record CutLegal (j : Job) (e : State) (m log : List ℕ) (new : List Chunk) (q : WithEvents) : Type 0 where
@@ -110,7 +112,7 @@ module _ (s : Setup) (wall vs : List Float) (lens start : List ℕ) (limit : Flo
           log-long = long;
         }
 
-    refused_legal : (num : ℕ) → CutLegal j (trial_of (suc n)) m log (chunks_of w (suc n)) (with_events (lf m d k.log rows o (Refused num)) (withdrawn ∷ []))
+    refused_legal : (num : Full) → CutLegal j (trial_of (suc n)) m log (chunks_of w (suc n)) (with_events (lf m d k.log rows o (Err num)) (withdrawn ∷ []))
     unfolding steps step how_many
     refused_legal num = record {
       legal = (record { points = pn; on = refl }, tt);
@@ -121,11 +123,13 @@ module _ (s : Setup) (wall vs : List Float) (lens start : List ℕ) (limit : Flo
     }
 
     kept_legal : CutLegal j (trial_of (suc n)) m log (chunks_of w (suc n)) (kept_of s w k.count (suc n) t m d k.log rows o)
-    unfolding kept_of
+    unfolding kept_of kept_where
     kept_legal =
-        by_test (CutLegal j (trial_of (suc n)) m log (chunks_of w (suc n))) (eqb (refusal_of (length o / 3 - t.triples) (length rows / 3 - t.rows) (needs (chunks_of w (suc n)))) 0) _ _
-        (λ b. listed_legal)
-        (λ b. refused_legal (refusal_of (length o / 3 - t.triples) (length rows / 3 - t.rows) (needs (chunks_of w (suc n)))))
+        where_legal (room_of (length o / 3 - t.triples) (length rows / 3 - t.rows) (needs (chunks_of w (suc n))))
+      where
+        where_legal : (r : Result Unit Full) → CutLegal j (trial_of (suc n)) m log (chunks_of w (suc n)) (kept_where s w k.count (suc n) t m d k.log rows o r)
+        where_legal (Ok u) = listed_legal
+        where_legal (Err f) = refused_legal f
 
     -- the log, the count and the number of points as the tries have them
     kept_by : (log' : List ℕ) (removed points : ℕ) → k.log ≡ log' → k.count ≡ removed → points ≡ suc n
@@ -160,7 +164,7 @@ module _ (s : Setup) (wall vs : List Float) (lens allowed : List ℕ) (pts : Lis
         c = q.outcome
 
         -- nothing is on trial
-        quiet : (x : Cut) → listed_by x (new_after c) ≡ [] → placed_by x (position_of t.pos) ≡ position_of t.pos → c.attempt.worth ≡ false
+        quiet : (x : Result Cut Full) → listed_by x (new_after c) ≡ [] → placed_by x (position_of t.pos) ≡ position_of t.pos → c.attempt.worth ≡ false
             → Fits (with_events (lf m d c.log rows c.out x) q.events)
         quiet x a b w = record {
           legal = h.legal;
@@ -184,8 +188,8 @@ module _ (s : Setup) (wall vs : List Float) (lens allowed : List ℕ) (pts : Lis
         unfolding after_tries
         after_legal =
             by_test Fits c.attempt.full _ _
-            (λ b. quiet (Refused 16) refl refl (h.full b))
-            (λ b. by_test Fits c.attempt.worth _ _ worthy (quiet (Nothing (spending c.attempt.work t)) refl refl))
+            (λ b. quiet (Err Triples) refl refl (h.full b))
+            (λ b. by_test Fits c.attempt.worth _ _ worthy (quiet (Ok (Nothing (spending c.attempt.work t))) refl refl))
 
     -- from any state with the map m, the log's slice `log` and the tool where the plan has it
     pub cut_legal : (o : List Float) (e : State) → Idle e (st m log 0) → e.position ≡ position_of t.pos

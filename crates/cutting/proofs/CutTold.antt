@@ -31,8 +31,10 @@ use Rattle.cutting.specs.Tries.{tries_of}
 use Rattle.cutting.specs.Way.{route_of, way_chunks}
 use Rattle.cutting.specs.Piece.{Left, WithEvents, cut_piece_of}
 use Rattle.cutting.specs.declared.piece.State.{State as Plan}
+use Rattle.std.specs.Prelude.{Result, Ok, Err}
+use Rattle.cutting.specs.declared.listing.Full.{Full}
 use Rattle.cutting.specs.declared.piece.Cut.{Cut}
-use Rattle.cutting.specs.declared.piece.Cut.TheVariants.{Nothing, Kept, Refused}
+use Rattle.cutting.specs.declared.piece.Cut.TheVariants.{Nothing, Kept}
 use Rattle.cutting.proofs.WayLegal.{position_of}
 use Rattle.cutting.proofs.TriesLegal.{Idle}
 use Rattle.cutting.proofs.CutLegal.{listed_by, placed_by, new_after, CutLegal, cut_legal}
@@ -56,10 +58,10 @@ pub record Agrees (e : State) (t : Plan) : Type 0 where
   pub triples : length (all_triples e.rows) ≡ t.triples
 
 -- a refusal ends the plan
-abbrev pub Answers : State → Cut → Type 0
-Answers e (Nothing t) = Agrees e t
-Answers e (Kept t) = Agrees e t
-Answers e (Refused n) = Unit {0}
+abbrev pub Answers : State → Result Cut Full → Type 0
+Answers e (Ok (Nothing t)) = Agrees e t
+Answers e (Ok (Kept t)) = Agrees e t
+Answers e (Err f) = Unit {0}
 
 -- q came of the map m, the log's slice l, rows and triples after the events es
 pub record CutTold (j : Job) (es : List Event) (m gone l rows : List ℕ) (o : List Float) (q : WithEvents) : Type 0 where
@@ -73,10 +75,10 @@ pub record CutTold (j : Job) (es : List Event) (m gone l rows : List ℕ) (o : L
   pub rows_long : length q.left.rows ≡ length rows
   pub out-long : length q.left.out ≡ length o
 
-answer_of_lem : (a : Cut) (k : Stock) (cs : List Chunk) (p : Option Vec2) (gone : List ℕ) → Counts a cs → Answers (state k cs (placed_by a p) none none gone) a
-answer_of_lem (Nothing t) k cs p gone c = record { position = refl; rows = c.0; triples = c.1 }
-answer_of_lem (Kept t) k cs p gone c = record { position = refl; rows = c.0; triples = c.1 }
-answer_of_lem (Refused n) k cs p gone c = tt
+answer_of_lem : (a : Result Cut Full) (k : Stock) (cs : List Chunk) (p : Option Vec2) (gone : List ℕ) → Counts a cs → Answers (state k cs (placed_by a p) none none gone) a
+answer_of_lem (Ok (Nothing t)) k cs p gone c = record { position = refl; rows = c.0; triples = c.1 }
+answer_of_lem (Ok (Kept t)) k cs p gone c = record { position = refl; rows = c.0; triples = c.1 }
+answer_of_lem (Err f) k cs p gone c = tt
 
 -- the chunks of a piece: a way and its cut, or none
 way_followed : (w : Way) (q : Vec2) (ps : List Point) → Followed (way_chunks w q ++ (cut ps ∷ []))
@@ -84,10 +86,10 @@ unfolding way_chunks
 way_followed lost q ps = plunge_followed q ps
 way_followed (way ws) q ps = links_followed ws ps
 
-listed_followed : (a : Cut) (new : List Chunk) → Followed new → Followed (listed_by a new)
-listed_followed (Nothing t) new h = tt
-listed_followed (Kept t) new h = h
-listed_followed (Refused n) new h = tt
+listed_followed : (a : Result Cut Full) (new : List Chunk) → Followed new → Followed (listed_by a new)
+listed_followed (Ok (Nothing t)) new h = tt
+listed_followed (Ok (Kept t)) new h = h
+listed_followed (Err f) new h = tt
 
 -- a plan begins with no events
 pub planned_begin : (j : Job) (rows : List ℕ) (o : List Float) → Planned j [] j.start (zeros j) (zeros j) rows o

@@ -1,4 +1,5 @@
 -- What the proof of `go_and_keep` cites, over plain values. Assumes nothing.
+use Rattle.passes.specs.Start.{Place}
 use mathlib.Core.Path.{◌≡◌, refl, sym, ap, ◌∙◌, subst}
 use mathlib.Core.List.{List}
 use Prim.Native.Nat.{ℕ, ◌+◌, ◌-◌, ◌*◌, ◌≤◌}
@@ -18,17 +19,17 @@ use Rattle.raster.specs.Log.{Logged}
 use Rattle.setup.specs.Layout.{run, allowed_from, log_from, path_from}
 use Rattle.setup.specs.declared.Setup.{Setup}
 use Rattle.setup.proofs.PartLaws.{part_is, part_long}
-use Rattle.links.specs.Path.{Way, lost, way, wall_in, path_in, Fitted}
-use Rattle.links.specs.Link.{Linked, link_path, linked_in, way_by, work_of}
+use Rattle.links.specs.Path.{way_at, Way, lost, way, wall_in, path_in, Fitted}
+use Rattle.links.specs.Link.{Linked, link_path, linked_in, way_by}
 use Rattle.links.specs.declared.link.Route.{Route}
-use Rattle.links.specs.declared.link.Route.TheVariants.{Along, Lost}
+use Rattle.std.specs.Prelude.{Option, Some, None}
 use Rattle.links.proofs.WayLaws.{link-few}
 use Rattle.events.specs.Read.{spot_at}
-use Rattle.passes.specs.declared.start.Place.{Place}
-use Rattle.passes.specs.declared.start.Place.TheVariants.{At, Nowhere}
-use Rattle.cutting.specs.Way.{route_of, moves_of}
+use Rattle.cutting.specs.Way.{moves_at, route_of, moves_of}
 use Rattle.cutting.specs.Piece.{spending, Left, lf, kept_of, went_of, Lends, Listed}
 use Rattle.cutting.specs.declared.piece.State.{State}
+use Rattle.std.specs.Prelude.{Result}
+use Rattle.cutting.specs.declared.listing.Full.{Full}
 use Rattle.cutting.specs.declared.piece.Cut.{Cut}
 
 -- a way has at most n points
@@ -39,8 +40,11 @@ Few n (way ps) = length ps ≤ n
 -- it has a link to each of them, or a plunge
 moves_few : (n : ℕ) (route : Route) (path : List Float) → 1 ≤ n → Few n (way_by route path) → moves_of route ≤ n
 unfolding moves_of
-moves_few n (Along k work) path o h = omega (arith, points-length 0 k path, h)
-moves_few n (Lost work) path o h = o
+moves_few n route path o h = go route.points h
+  where
+    go : (r : Option ℕ) → Few n (way_at r path) → moves_at r ≤ n
+    go (Some k) f = omega (arith, points-length 0 k path, f)
+    go None f = o
 
 module _ (s : Setup) (S : Sides s.grid) (wall vs : List Float) (lens m allowed : List ℕ) (to : Vec2) where
   abbrev cells : ℕ
@@ -52,8 +56,8 @@ module _ (s : Setup) (S : Sides s.grid) (wall vs : List Float) (lens m allowed :
 
   route_counts : (pos : Place) → Few cells (route_of s wall vs lens m allowed pos to).path
   unfolding route_of
-  route_counts Nowhere = tt
-  route_counts (At a) = by_test (λ (r : Linked). Few cells r.path) s.keep_down _ _ (λ b. link_counts a _ refl) (λ b. tt)
+  route_counts None = tt
+  route_counts (Some a) = by_test (λ (r : Linked). Few cells r.path) s.keep_down _ _ (λ b. link_counts a _ refl) (λ b. tt)
 
 module _ (s : Setup) (vs : List Float) (lens b u : List ℕ) (w : List Float) (F : Fitted s vs lens (run 0 (s.grid.ny * s.grid.nx) b) w) (D : Lends (s.grid.ny * s.grid.nx) b u)
     (from : ℕ) (A : from ≡ allowed_from (s.grid.ny * s.grid.nx)) where
@@ -82,7 +86,7 @@ module _ (s : Setup) (vs : List Float) (lens b u : List ℕ) (w : List Float) (F
   -- the way r to the pass's first point, laid in w', the state t' that its work leaves, and where log and path begin
   module _ (t : State) (o : List Float) (to : Vec2) (T : to ≡ spot_at o t.triples) (r : Route) (u' : List ℕ) (w' : List Float)
       (R : linked_in s r w' ≡ route_of s (wall_in s w) vs lens map_part allowed_part t.pos to) (U : Only 0 (15 * size) u u')
-      (W : Only (10 * size) (23 * size) w w') (work : ℕ) (N : work ≡ work_of r) (t' : State) (E : t' ≡ spending work t)
+      (W : Only (10 * size) (23 * size) w w') (work : ℕ) (N : work ≡ r.work) (t' : State) (E : t' ≡ spending work t)
       (log path : ℕ) (G : log ≡ log_from size) (P : path ≡ path_from size) where
     abbrev log_part : List ℕ
     log_part = take (log + size - log) (drop log u')
@@ -146,7 +150,7 @@ module _ (s : Setup) (vs : List Float) (lens b u : List ℕ) (w : List Float) (F
       abbrev keeps : Way → State → List ℕ → Left
       keeps p x l = (kept_of s p removed n x (run 0 size b) (run 4 size b) l rows o).left
 
-      pub went-is : (b' rows' : List ℕ) (o' : List Float) (a : Cut)
+      pub went-is : (b' rows' : List ℕ) (o' : List Float) (a : Result Cut Full)
           → lf (run 0 size b') (run 4 size b') log_part rows' o' a ≡ keeps (way_by r path_part) t' log_part
           → lf (run 0 size b') (run 4 size b') (run 24 size u') rows' o' a ≡ (went_of s (wall_in s w) vs lens (run 1 size b) t removed n (run 0 size b) (run 4 size b) (run 24 size u) rows o).left
       unfolding went_of

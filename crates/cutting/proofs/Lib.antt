@@ -1,11 +1,11 @@
--- For the proofs of the functions: `SettleLaws`, `WayLaws`, `TriesKeep`, `TriesLaws`, `RefusalLaws`, `ListingLaws`, `ListedLaws`, `KeepLaws`, `GoLaws`, `PieceLaws`.
+-- For the proofs of the functions: `SettleLaws`, `WayLaws`, `TriesKeep`, `TriesLaws`, `RoomLaws`, `ListingLaws`, `ListedLaws`, `KeepLaws`, `GoLaws`, `PieceLaws`.
 -- `TryLegal`, `TriesLegal`: the tries of a piece are legal events, `WayLegal`: so is the way to the pass that is worth it, `CutLegal`: so is the cutting of the
 -- piece. `TriesHolds`, `CutHolds`: the lent rows and triples hold what is listed. `CutTold`: demand 3 over a piece.
 pub mod SettleLaws
 pub mod WayLaws
 pub mod TriesKeep
 pub mod TriesLaws
-pub mod RefusalLaws
+pub mod RoomLaws
 pub mod ListingLaws
 pub mod ListedLaws
 pub mod KeepLaws

@@ -11,17 +11,17 @@ use Rattle.geom.specs.Points.{points}
 use Rattle.geom.specs.Region.{vertex_of}
 use Rattle.geom.specs.declared.vec2.Vec2.{Vec2}
 use Rattle.geom.proofs.PointLaws.{points-length}
-use Rattle.links.specs.Path.{Way, lost, way}
+use Rattle.links.specs.Path.{way_at, Way, lost, way}
 use Rattle.links.specs.Link.{way_by}
 use Rattle.links.specs.declared.link.Route.{Route}
-use Rattle.links.specs.declared.link.Route.TheVariants.{Along, Lost}
+use Rattle.std.specs.Prelude.{Option, Some, None}
 use Rattle.events.specs.Chunk.{Point, Chunk, plunge, link, cut}
 use Rattle.events.specs.Lent.{Row, Triple, triple_at, point_triple, row_at, rows_from, all_triples, set_row, set_triple, gap_triples, shift_up, put_from, put_all, put_rows}
 use Rattle.events.specs.Read.{points_from}
 use Rattle.events.proofs.LentLaws.{triples_more, rows_more, length-rows}
 use Rattle.events.proofs.PassLaws.{points-long}
 use Rattle.events.proofs.ShiftLaws.{set3-long, gap_is}
-use Rattle.cutting.specs.Way.{way_chunks, moves_of}
+use Rattle.cutting.specs.Way.{moves_at, way_chunks, moves_of}
 
 -- ---- one more put
 
@@ -118,21 +118,21 @@ pub plunge-put : (p : Vec2) (first row : ℕ) (t : List Float) (r : List ℕ)
 unfolding all_triples rows_from put_from
 plunge-put p first row t r = (refl, refl)
 
-pub way-along : (route : Route) (n work : ℕ) (path : List Float) (q : Vec2) → route ≡ Along n work → map link (points 0 n path) ≡ way_chunks (way_by route path) q
+pub way-along : (route : Route) (n : ℕ) (path : List Float) (q : Vec2) → route.points ≡ Some n → map link (points 0 n path) ≡ way_chunks (way_by route path) q
 unfolding way_chunks
-way-along route n work path q e = rw e refl
+way-along route n path q e = rw e refl
 
-pub way-lost : (route : Route) (work : ℕ) (path : List Float) (q : Vec2) → route ≡ Lost work → plunge q ∷ [] ≡ way_chunks (way_by route path) q
+pub way-lost : (route : Route) (path : List Float) (q : Vec2) → route.points ≡ None → plunge q ∷ [] ≡ way_chunks (way_by route path) q
 unfolding way_chunks
-way-lost route work path q e = rw e refl
+way-lost route path q e = rw e refl
 
-pub along_moves : (route : Route) (n work : ℕ) → route ≡ Along n work → moves_of route ≡ n
+pub along_moves : (route : Route) (n : ℕ) → route.points ≡ Some n → moves_of route ≡ n
 unfolding moves_of
-along_moves route n work e = rw e refl
+along_moves route n e = rw e refl
 
-pub lost_moves : (route : Route) (work : ℕ) → route ≡ Lost work → moves_of route ≡ 1
+pub lost_moves : (route : Route) → route.points ≡ None → moves_of route ≡ 1
 unfolding moves_of
-lost_moves route work e = rw e refl
+lost_moves route e = rw e refl
 
 pub room_at : (at moves count long : ℕ) → moves ≡ count → (at + moves) * 3 ≤ long → (at + count) * 3 ≤ long
 room_at at moves count long e h = omega arith
@@ -150,8 +150,11 @@ way-singles (way ps) q = links-long ps ∙ sym (length-map ps link)
 
 pub way_long : (route : Route) (path : List Float) (q : Vec2) → length (way_chunks (way_by route path) q) ≡ moves_of route
 unfolding way_chunks moves_of
-way_long (Along n work) path q = length-map (points 0 n path) link ∙ points-length 0 n path
-way_long (Lost work) path q = refl
+way_long route path q = go route.points
+  where
+    go : (r : Option ℕ) → length (way_chunks (way_at r path) q) ≡ moves_at r
+    go (Some n) = length-map (points 0 n path) link ∙ points-length 0 n path
+    go None = refl
 
 -- ---- the pass behind the way
 

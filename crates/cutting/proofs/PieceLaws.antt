@@ -23,13 +23,16 @@ use Rattle.events.specs.Events.{Event}
 use Rattle.passes.specs.Guide.{points_in}
 use Rattle.passes.specs.Attempt.{Outcome, Answered, ans, answered}
 use Rattle.passes.specs.declared.attempt.Attempt.{Attempt}
-use Rattle.passes.specs.declared.attempt.Attempt.TheVariants.{Full, Worth, Nothing as Unworthy}
+use Rattle.passes.specs.declared.attempt.Attempt.TheVariants.{Full as Unlisted, Worth, Nothing as Unworthy}
 use Rattle.passes.proofs.AttemptLaws.{Tells, answer_tells}
 use Rattle.cutting.specs.Tries.{Tries, ts, tries_of, Among}
 use Rattle.cutting.specs.Piece.{spending, Left, lf, went_of, worthy_of, after_tries, cut_piece_of, Lends, Listed, Settled, Behind}
 use Rattle.cutting.specs.declared.piece.State.{State}
+use Rattle.std.specs.Prelude.{Result, Ok, Err}
+use Rattle.cutting.specs.declared.listing.Full.TheVariants.{Triples}
+use Rattle.cutting.specs.declared.listing.Full.{Full}
 use Rattle.cutting.specs.declared.piece.Cut.{Cut}
-use Rattle.cutting.specs.declared.piece.Cut.TheVariants.{Nothing, Refused}
+use Rattle.cutting.specs.declared.piece.Cut.TheVariants.{Nothing}
 use Rattle.cutting.proofs.SettleLaws.{settled_not}
 use Rattle.cutting.proofs.TriesKeep.{tries_log_long, tries_long, tries_logged, tries_room}
 
@@ -61,11 +64,11 @@ module _ (s : Setup) (wall vs : List Float) (lens allowed : List ℕ) (pts : Lis
   abbrev after : Left
   after = (after_tries s wall vs lens allowed pts closed t m d rows (ts c es)).left
 
-  after-full : c.attempt.full ≡ true → lf m d c.log rows c.out (Refused 16) ≡ after
+  after-full : c.attempt.full ≡ true → lf m d c.log rows c.out (Err Triples) ≡ after
   unfolding after_tries
   after-full f = rw f refl
 
-  after_none : c.attempt.full ≡ false → c.attempt.worth ≡ false → lf m d c.log rows c.out (Nothing (spending c.attempt.work t)) ≡ after
+  after_none : c.attempt.full ≡ false → c.attempt.worth ≡ false → lf m d c.log rows c.out (Ok (Nothing (spending c.attempt.work t))) ≡ after
   unfolding after_tries
   after_none f g = rw (f, g) refl
 
@@ -90,7 +93,7 @@ module _ (s : Setup) (t : State) (vs : List Float) (lens b u : List ℕ) (w o : 
   tries = tries_of s may (points_in from m w) closed t.pos t.triples (run 0 size b) (run 24 size u) o
 
   -- what `cut_piece` ensures
-  abbrev Done : List ℕ → List ℕ → List Float → List Float → List ℕ → Cut → Type 0
+  abbrev Done : List ℕ → List ℕ → List Float → List Float → List ℕ → Result Cut Full → Type 0
   Done b' u' w' o' rows' r =
       (lf (run 0 size b') (run 4 size b') (run 24 size u') rows' o' r
       ≡ (cut_piece_of s (wall_in s w) vs lens (run 1 size b) (points_in from m w) closed t (run 0 size b) (run 4 size b) rows (run 24 size u) o).left)
@@ -175,7 +178,7 @@ module _ (s : Setup) (t : State) (vs : List Float) (lens b u : List ℕ) (w o : 
       log-left : run 24 size u₁ ≡ c.log
       log-left = log_there ∙ log-tried
 
-      left-same : (r : Cut) → lf (run 0 size b₁) (run 4 size b₁) (run 24 size u₁) rows o₁ r ≡ lf (run 0 size b) (run 4 size b) c.log rows c.out r
+      left-same : (r : Result Cut Full) → lf (run 0 size b₁) (run 4 size b₁) (run 24 size u₁) rows o₁ r ≡ lf (run 0 size b) (run 4 size b) c.log rows c.out r
       left-same r = λ i. lf (run 0 size (b_same i)) (run 4 size (b_same i)) (log-left i) rows (out-tried i) r
 
       frames : Settled size b b₁ × (Behind size u u₁ × Only (5 * size) (23 * size) w w₁)
@@ -186,14 +189,14 @@ module _ (s : Setup) (t : State) (vs : List Float) (lens b u : List ℕ) (w o : 
       unfolding cut_piece_of
       is_cut = refl
 
-      pub cut-refused : a ≡ Full → Done b₁ u₁ w₁ o₁ rows (Refused 16)
-      cut-refused e = (left-same (Refused 16) ∙ after-full _ _ _ _ _ _ _ _ _ _ _ c tries.events (tells Full e) ∙ is_cut, frames)
+      pub cut-refused : a ≡ Unlisted → Done b₁ u₁ w₁ o₁ rows (Err Triples)
+      cut-refused e = (left-same (Err Triples) ∙ after-full _ _ _ _ _ _ _ _ _ _ _ c tries.events (tells Unlisted e) ∙ is_cut, frames)
 
-      pub cut-nothing : (work : ℕ) → a ≡ Unworthy work → (done : State) → done ≡ spending work t → Done b₁ u₁ w₁ o₁ rows (Nothing done)
+      pub cut-nothing : (work : ℕ) → a ≡ Unworthy work → (done : State) → done ≡ spending work t → Done b₁ u₁ w₁ o₁ rows (Ok (Nothing done))
       cut-nothing work e done D =
           let f = tells (Unworthy work) e in (
-            left-same (Nothing done)
-                ∙ ap (λ (z : State). lf (run 0 size b) (run 4 size b) c.log rows c.out (Nothing z)) (D ∙ ap (λ (k : ℕ). spending k t) f.1.1)
+            left-same (Ok (Nothing done))
+                ∙ ap (λ (z : State). lf (run 0 size b) (run 4 size b) c.log rows c.out (Ok (Nothing z))) (D ∙ ap (λ (k : ℕ). spending k t) f.1.1)
                 ∙ after_none _ _ _ _ _ _ _ _ _ _ _ c tries.events f.0 f.1.0
                 ∙ is_cut,
             frames,
@@ -238,7 +241,7 @@ module _ (s : Setup) (t : State) (vs : List Float) (lens b u : List ℕ) (w o : 
           ),
         )
 
-        pub cut-kept : (b₂ u₂ : List ℕ) (w₂ o₂ : List Float) (rows₂ : List ℕ) (r : Cut)
+        pub cut-kept : (b₂ u₂ : List ℕ) (w₂ o₂ : List Float) (rows₂ : List ℕ) (r : Result Cut Full)
             → lf (run 0 size b₂) (run 4 size b₂) (run 24 size u₂) rows₂ o₂ r ≡ (went_of s (wall_in s w₁) vs lens (run 1 size b₁) done removed n (run 0 size b₁) (run 4 size b₁) (run 24 size u₁) rows o₁).left
             → Settled size b₁ b₂ → Only 0 (15 * size) u₁ u₂ → Only (10 * size) (23 * size) w₁ w₂ → Done b₂ u₂ w₂ o₂ rows₂ r
         cut-kept b₂ u₂ w₂ o₂ rows₂ r G S U X = (

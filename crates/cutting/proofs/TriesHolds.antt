@@ -1,4 +1,5 @@
 -- While a piece is tried the lent slices hold the listed chunks, and behind them the points of the last pass. Assumes nothing.
+use Rattle.passes.specs.Start.{Place}
 use mathlib.Core.Path.{◌≡◌, refl, sym, ◌∙◌, subst}
 use mathlib.Core.Bool.{Bool, false}
 use mathlib.Core.List.{List, []}
@@ -19,7 +20,6 @@ use Rattle.passes.specs.Simulate.{Pass, simulate_of}
 use Rattle.passes.specs.Guide.{blend_of}
 use Rattle.passes.specs.Attempt.{Outcome, judged_by, outcome_of, start_by}
 use Rattle.setup.specs.Made.{Measured}
-use Rattle.passes.specs.declared.start.Place.{Place}
 use Rattle.passes.proofs.KeepLaws.{simulate_ran, ran_kept}
 use Rattle.passes.proofs.PieceLaws.{blend_tried}
 use Rattle.cutting.specs.Tries.{start_at, guide_of, Tries, guide_at, try_at, tries_of}

@@ -1,4 +1,5 @@
 -- What the tries of a piece keep, whatever they found: a law for any claim, and lengths, log and room for their callers. Assumes nothing.
+use Rattle.passes.specs.Start.{Place}
 use mathlib.Core.Path.{◌≡◌, refl, sym, ap, ◌∙◌, subst}
 use mathlib.Core.Bool.{Bool, true, false, cond, ◌||◌}
 use mathlib.Core.List.{List, []}
@@ -16,7 +17,6 @@ use Rattle.setup.specs.declared.Setup.{Setup}
 use Rattle.passes.specs.Simulate.{Pass, simulate_of}
 use Rattle.passes.specs.Worth.{spots_from, worth_of}
 use Rattle.passes.specs.Attempt.{Outcome, att, oc, judged_by, outcome_of, start_by}
-use Rattle.passes.specs.declared.start.Place.{Place}
 use Rattle.passes.proofs.KeepLaws.{Ran, simulate_ran, ran_kept, ran_logged}
 use Rattle.passes.proofs.WorthLaws.{worth-points}
 use Rattle.cutting.specs.Tries.{starts_of, Tries, ts, tried_end, guide_at, try_at, try_step, tries_of}

@@ -24,11 +24,10 @@ use Rattle.links.specs.Path.{wall_in, Fitted}
 use Rattle.links.proofs.LinkLaws.{wall-kept, fitted_kept}
 use Rattle.passes.specs.Shifts.{sat_add}
 use Rattle.passes.specs.Guide.{walk_of, blend_of, flat, points_in, bent_or, blend_in, laid_in, Ahead}
-use Rattle.passes.specs.Start.{near_of, start_of}
+use Rattle.passes.specs.Start.{Place, near_of, start_of}
 use Rattle.passes.specs.Attempt.{att, Outcome, oc, answer_of, Answered, ans, answered, start_by}
 use Rattle.passes.specs.declared.attempt.Attempt.{Attempt}
 use Rattle.passes.specs.declared.attempt.Attempt.TheVariants.{Full, Worth, Nothing}
-use Rattle.passes.specs.declared.start.Place.{Place}
 use Rattle.passes.proofs.AttemptLaws.{Tells, answer_tells, answer-full, answer-worth, answer-nothing}
 use Rattle.passes.proofs.PieceLaws.{bent_long}
 use Rattle.passes.proofs.LayLaws.{flat-length, walk-length, part_half}

@@ -1,4 +1,5 @@
 -- The tries of a piece are legal events: nothing is left on trial, or the pass that is worth it. Assumes nothing.
+use Rattle.passes.specs.Start.{Place}
 use mathlib.Core.Path.{◌≡◌, refl, sym, ap, ◌∙◌, subst}
 use mathlib.Core.Bool.{Bool, false}
 use mathlib.Core.List.{List, ◌++◌}
@@ -20,7 +21,6 @@ use Rattle.passes.specs.Guide.{blend_of}
 use Rattle.passes.specs.Attempt.{Outcome, oc, start_by}
 use Rattle.setup.specs.Made.{Measured}
 use Rattle.passes.specs.Tried.{job_at}
-use Rattle.passes.specs.declared.start.Place.{Place}
 use Rattle.cutting.specs.Tries.{start_at, guide_of, Tries, worked, try_events, guide_at, try_at, tries_of}
 use Rattle.cutting.proofs.TriesKeep.{ready-same, keeps_tries}
 use Rattle.cutting.proofs.TryLegal.{TriesLegal, start_legal}

@@ -1,4 +1,5 @@
 -- What the proof of `way_to` cites, over plain values. Assumes nothing.
+use Rattle.passes.specs.Start.{Place}
 use mathlib.Core.Path.{◌≡◌, sym, ap, ◌∙◌}
 use mathlib.Core.Bool.{Bool, true, false, cond}
 use mathlib.Core.List.{List}
@@ -11,25 +12,23 @@ use Rattle.loops.proofs.FrameLaws.{only_same}
 use Rattle.geom.specs.declared.vec2.Vec2.{Vec2}
 use Rattle.setup.specs.declared.Setup.{Setup}
 use Rattle.links.specs.Path.{lost, wall_in, Fitted}
-use Rattle.links.specs.Link.{Linked, linked, link_path, linked_in}
-use Rattle.links.specs.declared.link.Route.TheVariants.{Lost}
-use Rattle.passes.specs.declared.start.Place.{Place}
-use Rattle.passes.specs.declared.start.Place.TheVariants.{At, Nowhere}
+use Rattle.links.specs.Link.{route as routed, Linked, linked, link_path, linked_in}
+use Rattle.std.specs.Prelude.{None, Some}
 use Rattle.cutting.specs.Way.{route_of}
 
 module _ (s : Setup) (vs : List Float) (lens m allowed : List ℕ) (w : List Float) (to : Vec2) where
   abbrev route : Place → Linked
   route pos = route_of s (wall_in s w) vs lens m allowed pos to
 
-  pub route_nowhere : (pos : Place) → pos ≡ Nowhere → linked_in s (Lost 0) w ≡ route pos
+  pub route_nowhere : (pos : Place) → pos ≡ None → linked_in s (routed None 0) w ≡ route pos
   unfolding route_of
   route_nowhere pos e = sym (ap route e)
 
-  pub route_up : (pos : Place) (p : Vec2) → pos ≡ At p → s.keep_down ≡ false → linked_in s (Lost 0) w ≡ route pos
+  pub route_up : (pos : Place) (p : Vec2) → pos ≡ Some p → s.keep_down ≡ false → linked_in s (routed None 0) w ≡ route pos
   unfolding route_of
   route_up pos p e d = sym (ap route e ∙ ap (λ (b : Bool). cond b (link_path s (wall_in s w) vs lens m allowed p to) (linked lost 0)) d)
 
-  pub route_down : (pos : Place) (p : Vec2) → pos ≡ At p → s.keep_down ≡ true → (l : Linked) → l ≡ link_path s (wall_in s w) vs lens m allowed p to → l ≡ route pos
+  pub route_down : (pos : Place) (p : Vec2) → pos ≡ Some p → s.keep_down ≡ true → (l : Linked) → l ≡ link_path s (wall_in s w) vs lens m allowed p to → l ≡ route pos
   unfolding route_of
   route_down pos p e d l q = q ∙ sym (ap route e ∙ ap (λ (b : Bool). cond b (link_path s (wall_in s w) vs lens m allowed p to) (linked lost 0)) d)
 

@@ -1,4 +1,6 @@
 -- The way to a pass on trial is legal events, and so is the pass kept where the way ends. Assumes nothing.
+use Rattle.passes.specs.Start.{Place}
+use Rattle.std.specs.Prelude.{Some, None}
 use mathlib.Core.Path.{◌≡◌, refl, sym, ap, ◌∙◌, subst}
 use mathlib.Core.Bool.{Bool, true, false}
 use mathlib.Core.List.{List, [], ◌∷◌, ◌++◌, map}
@@ -25,15 +27,13 @@ use Rattle.events.specs.Read.{spot_at, point_at, points_from}
 use Rattle.events.proofs.WayLaws.{way-is, no-way-is, WayChecked, way_legal}
 use Rattle.events.proofs.PassLaws.{last_more, first-point}
 use Rattle.passes.specs.Tried.{job_at}
-use Rattle.passes.specs.declared.start.Place.{Place}
-use Rattle.passes.specs.declared.start.Place.TheVariants.{At, Nowhere}
 use Rattle.cutting.specs.Way.{route_of, way_chunks}
 use Rattle.cutting.specs.Piece.{way_events}
 
 -- where the tool is, as the events have it
 abbrev pub position_of : Place → Option Vec2
-position_of Nowhere = none
-position_of (At p) = some p
+position_of None = none
+position_of (Some p) = some p
 
 -- ---- no place of a helix is given up on the way
 
@@ -44,20 +44,20 @@ links-places (w ∷ ws) = omega (arith, links-places ws)
 
 pub way-places : (down : Bool) (pos : Place) (w : Way) (q : Vec2) → events_of 5 (way_events down pos w q) ≡ 0
 unfolding way_events how_many
-way-places down Nowhere w q = refl
-way-places true (At a) lost q = refl
-way-places false (At a) lost q = refl
-way-places down (At a) (way ws) q = links-places ws
+way-places down None w q = refl
+way-places true (Some a) lost q = refl
+way-places false (Some a) lost q = refl
+way-places down (Some a) (way ws) q = links-places ws
 
 -- ---- the way to the pass on trial
 
 module _ (s : Setup) (wall vs : List Float) (lens m : List ℕ) where
   -- a way from a place to q; from nowhere there is none, and where one is asked for and lost the straight feed is not clear
   abbrev pub Leads : Place → Way → Vec2 → Type 0
-  Leads Nowhere lost q = Unit {0}
-  Leads Nowhere (way ps) q = ⊥
-  Leads (At a) lost q = s.keep_down ≡ true → link_clear s wall vs lens m a q ≡ false
-  Leads (At a) (way ps) q = Chained (link_clear s wall vs lens m) a ps q
+  Leads None lost q = Unit {0}
+  Leads None (way ps) q = ⊥
+  Leads (Some a) lost q = s.keep_down ≡ true → link_clear s wall vs lens m a q ≡ false
+  Leads (Some a) (way ps) q = Chained (link_clear s wall vs lens m) a ps q
 
   module _ (S : Sides s.grid) (allowed : List ℕ) (q : Vec2) where
     -- the straight feed is tried first
@@ -67,14 +67,14 @@ module _ (s : Setup) (wall vs : List Float) (lens m : List ℕ) where
         (λ c. let x = ap (λ (l : Linked). l.path) (link_straight_way s wall vs lens m allowed a q c) in absurd (let z : ◌≡◌ {A = ℕ} 0 1 = cc in omega arith))
         (λ c. c)
 
-    link-leads : (a : Vec2) (p : Way) → (link_path s wall vs lens m allowed a q).path ≡ p → Leads (At a) p q
+    link-leads : (a : Vec2) (p : Way) → (link_path s wall vs lens m allowed a q).path ≡ p → Leads (Some a) p q
     link-leads a lost e = λ d. lost-blocked a e
     link-leads a (way ps) e = link-chained s S wall vs lens m allowed a q ps e
 
     pub route_leads : (pos : Place) → Leads pos (route_of s wall vs lens m allowed pos q).path q
     unfolding route_of
-    route_leads Nowhere = tt
-    route_leads (At a) = by_test (λ (r : Linked). Leads (At a) r.path q) s.keep_down _ _ (λ b. link-leads a _ refl) (λ b d. never (sym b ∙ d))
+    route_leads None = tt
+    route_leads (Some a) = by_test (λ (r : Linked). Leads (Some a) r.path q) s.keep_down _ _ (λ b. link-leads a _ refl) (λ b d. never (sym b ∙ d))
 
 module _ (s : Setup) (wall vs : List Float) (lens start : List ℕ) (limit : Float) (entry : Entry) (m : List ℕ) where
   abbrev j : Job
@@ -109,27 +109,27 @@ module _ (s : Setup) (wall vs : List Float) (lens start : List ℕ) (limit : Flo
       unlinked = u;
     }
 
-    refused_checked : (a : Vec2) → s.keep_down ≡ true → link_clear s wall vs lens m a q ≡ false → NoWayChecked j (trial_at (At a)) q
+    refused_checked : (a : Vec2) → s.keep_down ≡ true → link_clear s wall vs lens m a q ≡ false → NoWayChecked j (trial_at (Some a)) q
     refused_checked a d h = record { from = a; here = refl; down = d; blocked = ap (λ (x : List ℕ). link_clear s wall vs lens x a q) K.back ∙ h }
 
     pub way_goes : (down : Bool) → s.keep_down ≡ down → (pos : Place) (w : Way) → Leads s wall vs lens m pos w q → LegalFrom j (trial_at pos) (way_events down pos w q)
     unfolding way_events step
-    way_goes down d Nowhere lost h = (down_checked (trial_at Nowhere) refl (nowhere refl), tt)
-    way_goes down d Nowhere (way ws) h = absurd h
-    way_goes true d (At a) lost h = (refused_checked a d (h d), (down_checked _ same (denied refl), tt))
-    way_goes false d (At a) lost h = (down_checked (trial_at (At a)) refl (lifted d), tt)
-    way_goes down d (At a) (way ws) h =
-        way_legal j ws (trial_at (At a)) same a refl (subst (λ (x : List ℕ). WayChecked j x a ws) (sym K.back) (chained_checked a ws q h))
+    way_goes down d None lost h = (down_checked (trial_at None) refl (nowhere refl), tt)
+    way_goes down d None (way ws) h = absurd h
+    way_goes true d (Some a) lost h = (refused_checked a d (h d), (down_checked _ same (denied refl), tt))
+    way_goes false d (Some a) lost h = (down_checked (trial_at (Some a)) refl (lifted d), tt)
+    way_goes down d (Some a) (way ws) h =
+        way_legal j ws (trial_at (Some a)) same a refl (subst (λ (x : List ℕ). WayChecked j x a ws) (sym K.back) (chained_checked a ws q h))
 
     -- listed between one undoing and one clearing again
     pub way_leaves : (down : Bool) (pos : Place) (w : Way) → Leads s wall vs lens m pos w q → steps j (trial_at pos) (way_events down pos w q) ≡ arrived w
     unfolding way_events way_chunks steps step
-    way_leaves down Nowhere lost h = ap (λ (x : Stock). state x (cs ++ (plunge q ∷ [])) (some q) (some ps) none gone) same
-    way_leaves down Nowhere (way ws) h = absurd h
-    way_leaves true (At a) lost h = no-way-is j q (trial_at (At a)) same ∙ ap (λ (x : Stock). state x (cs ++ (plunge q ∷ [])) (some q) (some ps) none gone) same
-    way_leaves false (At a) lost h = ap (λ (x : Stock). state x (cs ++ (plunge q ∷ [])) (some q) (some ps) none gone) same
-    way_leaves down (At a) (way ws) h =
-        way-is j ws (trial_at (At a)) same refl
+    way_leaves down None lost h = ap (λ (x : Stock). state x (cs ++ (plunge q ∷ [])) (some q) (some ps) none gone) same
+    way_leaves down None (way ws) h = absurd h
+    way_leaves true (Some a) lost h = no-way-is j q (trial_at (Some a)) same ∙ ap (λ (x : Stock). state x (cs ++ (plunge q ∷ [])) (some q) (some ps) none gone) same
+    way_leaves false (Some a) lost h = ap (λ (x : Stock). state x (cs ++ (plunge q ∷ [])) (some q) (some ps) none gone) same
+    way_leaves down (Some a) (way ws) h =
+        way-is j ws (trial_at (Some a)) same refl
         ∙ (λ i. state (same i) (cs ++ map link ws) (chained-last a ws q h i) (some ps) none gone)
 
 -- ---- the pass kept

@@ -1,18 +1,25 @@
--- Chunks listed in the lent rows and triples: which refusal comes first, and the greatest contact. Definitions only.
-use Rattle.std.specs.Prelude.{ℕ, ◌-◌, ◌*◌, ◌≤◌, cond, List, [], ◌∷◌, map, length, eqb, ltb, Float}
+-- Chunks listed in the lent rows and triples: what is full first, and the greatest contact. Definitions only.
+use Rattle.std.specs.Prelude.{ℕ, ◌-◌, ◌*◌, ◌≤◌, cond, List, [], ◌∷◌, map, length, eqb, ltb, Result, Ok, Err, Float}
 use Rattle.loops.specs.Each.{over}
 use Rattle.numbers.specs.Order.{max_of}
 use Rattle.events.specs.Chunk.{Point, Chunk}
 use Rattle.events.specs.Lent.{triples_of}
+use Rattle.cutting.specs.declared.listing.Full.{Full}
+use Rattle.cutting.specs.declared.listing.Full.TheVariants.{Triples, Rows}
 
 -- how many triples each chunk has
 abbrev pub needs : List Chunk → List ℕ
 needs cs = map (λ (c : Chunk). length (triples_of c)) cs
 
--- chunks of so many triples, listed with so many triples and rows free: 16 at one whose triples do not fit, 17 at one whose row does not; 0 where all fit
-unfoldable pub refusal_of : ℕ → ℕ → List ℕ → ℕ
-refusal_of triples rows [] = 0
-refusal_of triples rows (n ∷ ns) = cond (ltb triples n) 16 (cond (eqb rows 0) 17 (refusal_of (triples - n) (rows - 1) ns))
+-- chunks of so many triples, listed with so many triples and rows free: the triples are full at one whose triples do not fit, the rows at one whose row does not
+unfoldable pub room_of : ℕ → ℕ → List ℕ → Result Unit Full
+room_of triples rows [] = Ok tt
+room_of triples rows (n ∷ ns) = cond (ltb triples n) (Err Triples) (cond (eqb rows 0) (Err Rows) (room_of (triples - n) (rows - 1) ns))
+
+-- document 01's number of a refusal
+abbrev pub number_of : Full → ℕ
+number_of Triples = 16
+number_of Rows = 17
 
 -- planned_max = planned_max.max(e), point by point
 abbrev pub greater : Point → Float → Float

@@ -1,6 +1,7 @@
 -- `cut_piece` of adaptive.rs, step by step: the tries, then the way to the pass that is worth it, judged on the map before it, and the pass kept.
 -- Definitions only.
-use Rattle.std.specs.Prelude.{ℕ, ◌+◌, ◌-◌, ◌*◌, ◌/◌, ◌≤◌, ◌≡◌, Bool, cond, List, [], ◌∷◌, ◌++◌, map, length, drop, eqb, Float}
+use Rattle.std.specs.Prelude.{ℕ, ◌+◌, ◌-◌, ◌*◌, ◌/◌, ◌≤◌, ◌≡◌, Bool, cond, List, [], ◌∷◌, ◌++◌, map, length, drop, Result, Ok, Err, Float, eqb, Some, None}
+use Rattle.passes.specs.Start.{Place}
 use Rattle.loops.specs.Regions.{within}
 use Rattle.geom.specs.declared.vec2.Vec2.{Vec2}
 use Rattle.raster.specs.Log.{undone, redone}
@@ -14,14 +15,14 @@ use Rattle.events.specs.Lent.{all_triples, rows_from, gap_triples, put_rows}
 use Rattle.events.specs.Read.{spot_at, points_from}
 use Rattle.passes.specs.Shifts.{sat_add}
 use Rattle.passes.specs.Attempt.{Outcome}
-use Rattle.passes.specs.declared.start.Place.{Place}
-use Rattle.passes.specs.declared.start.Place.TheVariants.{At, Nowhere}
 use Rattle.cutting.specs.Tries.{Tries, tries_of}
 use Rattle.cutting.specs.Way.{route_of, way_chunks}
-use Rattle.cutting.specs.Listing.{needs, refusal_of, greatest_of, Countable}
+use Rattle.cutting.specs.Listing.{needs, room_of, greatest_of, Countable}
+use Rattle.cutting.specs.declared.listing.Full.{Full}
+use Rattle.cutting.specs.declared.listing.Full.TheVariants.{Triples}
 use Rattle.cutting.specs.declared.piece.State.{State}
 use Rattle.cutting.specs.declared.piece.Cut.{Cut}
-use Rattle.cutting.specs.declared.piece.Cut.TheVariants.{Nothing, Kept, Refused}
+use Rattle.cutting.specs.declared.piece.Cut.TheVariants.{Nothing, Kept}
 
 abbrev pub sta : Place → ℕ → ℕ → Float → ℕ → State
 sta pos rows triples most work = record { pos = pos; rows = rows; triples = triples; planned_max = most; work = work }
@@ -37,13 +38,13 @@ pub record Left : Type 0 where
   pub log : List ℕ
   pub rows : List ℕ
   pub out : List Float
-  pub answer : Cut
+  pub answer : Result Cut Full
 
-abbrev pub lf : List ℕ → List ℕ → List ℕ → List ℕ → List Float → Cut → Left
+abbrev pub lf : List ℕ → List ℕ → List ℕ → List ℕ → List Float → Result Cut Full → Left
 lf m d l r o a = record { map = m; dirty = d; log = l; rows = r; out = o; answer = a }
 
 -- of n cells, map and dirty cells in the bytes b
-abbrev pub left_in : ℕ → List ℕ → List ℕ → List ℕ → List Float → Cut → Left
+abbrev pub left_in : ℕ → List ℕ → List ℕ → List ℕ → List Float → Result Cut Full → Left
 left_in n b l r o a = lf (map_in n b) (dirty_in n b) l r o a
 
 -- the same with the events that led there
@@ -58,9 +59,9 @@ with_events l es = record { left = l; events = es }
 
 -- a link refused is followed by a plunge; without a link asked for there is the plunge alone
 unfoldable pub way_events : Bool → Place → Way → Vec2 → List Event
-way_events down Nowhere p q = plunged q ∷ []
-way_events down (At a) lost q = cond down (no_way q ∷ plunged q ∷ []) (plunged q ∷ [])
-way_events down (At a) (way ps) q = map linked ps
+way_events down None p q = plunged q ∷ []
+way_events down (Some a) lost q = cond down (no_way q ∷ plunged q ∷ []) (plunged q ∷ [])
+way_events down (Some a) (way ps) q = map linked ps
 
 -- ---- a pass kept: `removed` cells are logged, and its n points stand in the triples behind those that are listed
 
@@ -79,13 +80,16 @@ module _ (s : Setup) (path : Way) (removed n : ℕ) (t : State) (m d log rows : 
   unfoldable pub listed_of : WithEvents
   listed_of =
       with_events (lf (redone log 0 removed m) (undone log 0 removed d) log (put_rows t.rows (rows_from t.triples new_of) rows) (gap_triples t.triples n (all_triples (way_chunks path lead_of)) o)
-      (Kept (sta (At (spot_at o (t.triples + n - 1))) (t.rows + length new_of) (t.triples + length (all_triples new_of)) (greatest_of points_of t.planned_max) t.work)))
+      (Ok (Kept (sta (Some (spot_at o (t.triples + n - 1))) (t.rows + length new_of) (t.triples + length (all_triples new_of)) (greatest_of points_of t.planned_max) t.work))))
       (way_events s.keep_down t.pos path lead_of ++ (kept ∷ []))
 
+  -- where there is no room for them: nothing is listed, and the pass is withdrawn
+  unfoldable pub kept_where : Result Unit Full → WithEvents
+  kept_where (Ok u) = listed_of
+  kept_where (Err e) = with_events (lf m d log rows o (Err e)) (withdrawn ∷ [])
+
   unfoldable pub kept_of : WithEvents
-  kept_of =
-      let no = refusal_of (length o / 3 - t.triples) (length rows / 3 - t.rows) (needs new_of) in
-      cond (eqb no 0) listed_of (with_events (lf m d log rows o (Refused no)) (withdrawn ∷ []))
+  kept_of = kept_where (room_of (length o / 3 - t.triples) (length rows / 3 - t.rows) (needs new_of))
 
 -- the way is judged on the map before the pass
 unfoldable pub went_of : Setup → List Float → List Float → List ℕ → List ℕ → State → ℕ → ℕ → List ℕ → List ℕ → List ℕ → List ℕ → List Float → WithEvents
@@ -104,9 +108,9 @@ module _ (s : Setup) (wall vs : List Float) (lens allowed : List ℕ) (pts : Lis
   after_tries q =
       let c = q.outcome in
       let a = c.attempt in
-      cond a.full (with_events (lf m d c.log rows c.out (Refused 16)) q.events)
+      cond a.full (with_events (lf m d c.log rows c.out (Err Triples)) q.events)
       (cond a.worth (with_events (worthy_of c).left (q.events ++ (worthy_of c).events))
-      (with_events (lf m d c.log rows c.out (Nothing (spending a.work t))) q.events))
+      (with_events (lf m d c.log rows c.out (Ok (Nothing (spending a.work t)))) q.events))
 
   unfoldable pub cut_piece_of : List ℕ → List Float → WithEvents
   cut_piece_of log o = after_tries (tries_of s (allowed_at s wall vs lens) pts closed t.pos t.triples m log o)

@@ -11,9 +11,8 @@ use Rattle.events.specs.Events.{Event, tried, withdrawn}
 use Rattle.events.specs.Read.{points_from}
 use Rattle.passes.specs.Shifts.{sat_add}
 use Rattle.passes.specs.Guide.{walk_of, blend_of}
-use Rattle.passes.specs.Start.{near_of, start_of}
+use Rattle.passes.specs.Start.{Place, near_of, start_of}
 use Rattle.passes.specs.Attempt.{Attempted, att, Outcome, oc, start_by}
-use Rattle.passes.specs.declared.start.Place.{Place}
 
 -- ---- the starts
 

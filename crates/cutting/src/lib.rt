@@ -2,7 +2,7 @@
 // the first pass that is worth it, and the pass kept in the chunk list.
 #![tactic(auto)]
 
-mod listing;
+pub mod listing;
 pub mod piece;
 mod tries;
 mod way;

@@ -7,34 +7,50 @@ ghost use Rattle.events.specs.Chunk.{plunge, link, cut};
 ghost use Rattle.events.specs.Lent.{all_triples, rows_from, gap_triples, put_all, put_rows};
 ghost use Rattle.events.specs.Read.{points_from};
 ghost use Rattle.cutting.specs.Way.{way_chunks, moves_of};
-ghost use Rattle.cutting.specs.Listing.{refusal_of, greatest_of, Countable};
+ghost use Rattle.cutting.specs.Listing.{number_of, room_of, greatest_of, Countable};
 
-use events::list::{put_row, put_triple, shift_up, value};
+use events::list::{Kind, put_row, put_triple, shift_up, value};
 use geom::region::vertex;
 use geom::vec2::Vec2;
 use links::link::Route;
 
-// Document 01's refusal for `moves` chunks of one triple and then a cut of n, with so many triples and rows
-// free: 16 or 17, or 0 where all fit.
-pub fn refusal(triples: usize, rows: usize, moves: usize, n: usize) -> u32
-    ensures { result ≡ refusal_of triples rows (replicate moves 1 ++ (n ∷ [])) }
+// What is full where a chunk does not fit: document 01's refusals 16 and 17.
+#[derive(Clone, Copy, PartialEq, Eq, Debug)]
+pub enum Full {
+    Triples = 16,
+    Rows = 17,
+}
+
+// Its number.
+impl From<Full> for u32 {
+    ghost from_gives = { λ f n. n ≡ number_of f };
+
+    fn from(f: Full) -> u32 {
+        f as u32
+    }
+}
+
+// Whether `moves` chunks of one triple and then a cut of n fit, with so many triples and rows free, or what is full at
+// the first that does not.
+pub fn room(triples: usize, rows: usize, moves: usize, n: usize) -> Result<(), Full>
+    ensures { result ≡ room_of triples rows (replicate moves 1 ++ (n ∷ [])) }
 {
     if triples < moves {
         if rows < triples {
-            return 17;
+            return Err(Full::Rows);
         }
-        return 16;
+        return Err(Full::Triples);
     }
     if rows < moves {
-        return 17;
+        return Err(Full::Rows);
     }
     if triples - moves < n {
-        return 16;
+        return Err(Full::Triples);
     }
     if rows == moves {
-        return 17;
+        return Err(Full::Rows);
     }
-    0
+    Ok(())
 }
 
 // The greatest contact of n triples from number `first` on, or `so` where that is greater.
@@ -69,7 +85,7 @@ fn put_links(
         let p = vertex(path, k);
         let at = first + k;
         put_triple(triples, at, p, 0.0);
-        put_row(rows, row + k, 3, at as u32, 1);
+        put_row(rows, row + k, Kind::Link, at as u32, 1);
     }
 }
 
@@ -81,16 +97,16 @@ fn put_plunge(triples: &mut [f64], rows: &mut [u32], p: Vec2, first: usize, row:
     ensures rows_after { rows.new ≡ put_rows row (rows_from first (plunge p ∷ [])) rows.old }
 {
     put_triple(triples, first, p, 0.0);
-    put_row(rows, row, 2, first as u32, 1);
+    put_row(rows, row, Kind::Plunge, first as u32, 1);
 }
 
 // How many chunks a way has: a link to each of its points, or a plunge.
 pub fn moves_of(r: Route) -> usize
     ensures { result ≡ moves_of r }
 {
-    match r {
-        Route::Along(count, _) => count,
-        Route::Lost(_) => 1,
+    match r.points {
+        Some(count) => count,
+        None => 1,
     }
 }
 
@@ -111,9 +127,9 @@ fn put_way(
     ensures triples_after { triples.new ≡ put_all first (all_triples (way_chunks (way_by route path.now) lead)) triples.old }
     ensures rows_after { rows.new ≡ put_rows row (rows_from first (way_chunks (way_by route path.now) lead)) rows.old }
 {
-    match route {
-        Route::Along(count, _) => put_links(triples, rows, path, count, first, row),
-        Route::Lost(_) => put_plunge(triples, rows, lead, first, row),
+    match route.points {
+        Some(count) => put_links(triples, rows, path, count, first, row),
+        None => put_plunge(triples, rows, lead, first, row),
     }
 }
 
@@ -138,5 +154,11 @@ pub fn list_pass(
     let moves = moves_of(route);
     shift_up(triples, first * 3, n * 3, moves * 3);
     put_way(triples, rows, path, route, lead, first, row);
-    put_row(rows, row + moves, 4, (first + moves) as u32, n as u32);
+    put_row(
+        rows,
+        row + moves,
+        Kind::Cut,
+        (first + moves) as u32,
+        n as u32,
+    );
 }

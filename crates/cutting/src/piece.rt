@@ -13,46 +13,41 @@ ghost use Rattle.cutting.specs.Tries.{Among};
 ghost use Rattle.cutting.specs.Way.{moves_of};
 ghost use Rattle.cutting.specs.Piece.{spending, left_in, kept_of, went_of, cut_piece_of, Lends, Listed, Settled, Behind};
 
-use super::listing::{greatest, list_pass, moves_of, refusal};
+use super::listing::{Full, greatest, list_pass, moves_of, room};
 use super::tries::try_piece;
 use super::way::way_to;
 use events::list::spot;
-use links::link::{Route, work_of};
+use geom::vec2::Vec2;
+use links::link::Route;
 use passes::attempt::Attempt;
 use passes::shifts::sat_add;
-use passes::start::Place;
 use setup::{Setup, layout};
 
 // What planning holds by value: where the tool is, how many rows and triples are listed, the greatest
 // contact of a listed point, and the work.
 #[derive(Clone, Copy)]
 pub struct State {
-    pub pos: Place,
+    pub pos: Option<Vec2>,
     pub rows: usize,
     pub triples: usize,
     pub planned_max: f64,
     pub work: usize,
 }
 
-// What became of a piece: nothing worth it, a pass kept, or document 01's refusal 16 or 17.
+// What became of a piece: nothing worth it, or a pass kept.
 #[derive(Clone, Copy)]
 pub enum Cut {
     Nothing(State),
     Kept(State),
-    Refused(u32),
 }
 
 // Work that was spent: of the tries, of a search, of the field.
 pub fn spend(t: State, work: usize) -> State
     ensures { result ≡ spending work t }
 {
-    let pos = t.pos;
     State {
-        pos,
-        rows: t.rows,
-        triples: t.triples,
-        planned_max: t.planned_max,
         work: sat_add(t.work, work),
+        ..t
     }
 }
 
@@ -65,8 +60,8 @@ fn settle(b: &mut [u8], log: &[u32], n: usize, removed: usize)
 {
     let d = layout::dirty(n);
     let e = d + n;
-    raster::log::clear_again(&mut b[0..n], log, removed);
-    raster::log::undo(&mut b[d..e], log, removed);
+    raster::log::clear_again(&mut b[0..n], &log[..removed]);
+    raster::log::undo(&mut b[d..e], &log[..removed]);
 }
 
 // Keeps the pass on trial behind its way, where all their chunks fit: `removed` cells are logged, and its n
@@ -82,7 +77,7 @@ fn keep_pass(
     route: Route,
     removed: usize,
     n: usize,
-) -> Cut
+) -> Result<Cut, Full>
     requires sides { Sides s.grid }
     requires s_in_bounds { 8 * cells_of s ≤ length b.old }
     requires logged { Logged log.now removed (cells_of s) }
@@ -95,22 +90,19 @@ fn keep_pass(
     let first = t.triples;
     let row = t.rows;
     let moves = moves_of(route);
-    let no = refusal(triples.len() / 3 - first, rows.len() / 3 - row, moves, n);
-    if no != 0 {
-        return Cut::Refused(no);
-    }
+    room(triples.len() / 3 - first, rows.len() / 3 - row, moves, n)?;
     let planned_max = greatest(triples, first, n, t.planned_max);
     let lead = spot(triples, first);
     let last = spot(triples, first + n - 1);
     list_pass(triples, rows, path, route, lead, first, row, n);
     settle(b, log, s.grid.ny * s.grid.nx, removed);
-    Cut::Kept(State {
-        pos: Place::At(last),
+    Ok(Cut::Kept(State {
+        pos: Some(last),
         rows: row + moves + 1,
         triples: first + moves + n,
         planned_max,
         work: t.work,
-    })
+    }))
 }
 
 // The way to the pass on trial, judged on the map before it; then the pass is kept.
@@ -126,7 +118,7 @@ fn go_and_keep(
     rows: &mut [u32],
     removed: usize,
     n: usize,
-) -> Cut
+) -> Result<Cut, Full>
     requires fitted { Fitted s vs.now lens.now (map_in (cells_of s) b.old) w.old }
     requires lends { Lends (cells_of s) b.old u.old }
     requires logged { Logged (log_in (cells_of s) u.old) removed (cells_of s) }
@@ -156,7 +148,7 @@ fn go_and_keep(
     let path = layout::path(size);
     keep_pass(
         s,
-        spend(t, work_of(r)),
+        spend(t, r.work),
         b,
         &u[log..log + size],
         &w[path..path + 3 * size],
@@ -182,7 +174,7 @@ pub fn cut_piece(
     from: usize,
     m: usize,
     closed: bool,
-) -> Cut
+) -> Result<Cut, Full>
     requires fitted { Fitted s vs.now lens.now (map_in (cells_of s) b.old) w.old }
     requires lends { Lends (cells_of s) b.old u.old }
     requires among { Among (cells_of s) from m }
@@ -210,7 +202,7 @@ pub fn cut_piece(
         pos,
     );
     match a {
-        Attempt::Full => Cut::Refused(16),
+        Attempt::Full => Err(Full::Triples),
         Attempt::Worth(points, removed, work) => go_and_keep(
             s,
             spend(t, work),
@@ -224,6 +216,6 @@ pub fn cut_piece(
             removed,
             points,
         ),
-        Attempt::Nothing(work) => Cut::Nothing(spend(t, work)),
+        Attempt::Nothing(work) => Ok(Cut::Nothing(spend(t, work))),
     }
 }

@@ -10,9 +10,10 @@ ghost use Rattle.passes.specs.Start.{near_of};
 ghost use Rattle.passes.specs.Attempt.{ans, answered, start_by};
 ghost use Rattle.cutting.specs.Tries.{starts_of, guide_long, guide_of, tries_of, Among};
 
+use geom::vec2::Vec2;
 use passes::attempt::{Attempt, try_start};
 use passes::shifts::sat_add;
-use passes::start::{Place, near_start, start_of};
+use passes::start::{near_start, start_of};
 use setup::Setup;
 
 // How many starts are tried.
@@ -37,7 +38,7 @@ fn long(m: usize, closed: bool) -> usize
 }
 
 // The point where the first try starts: of a closed piece the nearest to the tool.
-fn first(w: &[f64], from: usize, m: usize, closed: bool, pos: Place) -> usize
+fn first(w: &[f64], from: usize, m: usize, closed: bool, pos: Option<Vec2>) -> usize
     requires le_m { 1 ≤ m }
     requires m_in_bounds { from + 2 * m ≤ length w.now }
     ensures { result ≡ cond closed (near_of (points_in from m w.now) pos) 0 }
@@ -93,7 +94,7 @@ pub fn try_piece(
     from: usize,
     m: usize,
     closed: bool,
-    pos: Place,
+    pos: Option<Vec2>,
 ) -> Attempt
     requires fitted { Fitted s vs.now lens.now map.old w.old }
     requires ready { Ready (st map.old log.old 0) }

@@ -10,7 +10,6 @@ ghost use Rattle.cutting.specs.Way.{route_of};
 
 use geom::vec2::Vec2;
 use links::link::{Route, link_path};
-use passes::start::Place;
 use setup::Setup;
 
 // The way from `pos` to a point, its points laid in the workspace; none is looked for where the tool is
@@ -23,7 +22,7 @@ pub fn way_to(
     allowed: &[u8],
     u: &mut [u32],
     w: &mut [f64],
-    pos: Place,
+    pos: Option<Vec2>,
     to: Vec2,
 ) -> Route
     requires fitted { Fitted s vs.now lens.now map.now w.old }
@@ -33,11 +32,17 @@ pub fn way_to(
     ensures only { Only 0 (segments_from (cells_of s)) u.old u.new }
     ensures only_2 { Only (cost_from (cells_of s)) (path_end (cells_of s)) w.old w.new }
 {
-    let Place::At(p) = pos else {
-        return Route::Lost(0);
+    let Some(p) = pos else {
+        return Route {
+            points: None,
+            work: 0,
+        };
     };
     if s.keep_down {
         return link_path(s, vs, lens, map, allowed, u, w, p, to);
     }
-    Route::Lost(0)
+    Route {
+        points: None,
+        work: 0,
+    }
 }

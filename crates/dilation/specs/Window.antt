@@ -1,5 +1,5 @@
 -- Which cells of a window a mark of it is nearer to than a bound, by squares of whole numbers. Definitions only.
-use Rattle.std.specs.Prelude.{ℕ, ◌+◌, ◌%◌, ◌≤◌, ◌<◌, ◌≡◌, true, ◌||◌, List, length, get_or, eqb}
+use Rattle.std.specs.Prelude.{ℕ, ◌+◌, ◌%◌, ◌≤◌, ◌<◌, ◌≡◌, true, ◌||◌, List, length, get_or, eqb, Some}
 use Rattle.loops.specs.Cells.{number}
 use Rattle.distance.specs.Least.{at, apart}
 use Rattle.distance.specs.Least as Least
@@ -10,10 +10,10 @@ use Rattle.dilation.specs.declared.window.Window.{Window}
 abbrev pub most : ℕ
 most = 67108864
 
--- the limit is told, and as a bound it is taken
-pub record Takes (l : Limit) : Type 0 where
-  pub told : l.told ≡ true
-  pub few : l.below ≤ most
+-- the limit is told as n, and as a bound it is taken
+pub record Takes (l : Limit) (n : ℕ) : Type 0 where
+  pub told : l.below ≡ Some n
+  pub few : n ≤ most
 
 -- cell (i, j) is one of the window's
 pub record In (w : Window) (i j : ℕ) : Type 0 where

@@ -16,6 +16,7 @@ fn down_row(marks: &[u8], base: usize, n: usize, run: &mut [u32], work: &mut [u3
     ensures wrote { Wrote (λ k. from_above (get_or marks.now (base + k) 0) 1 (get_or run.old k 0)) 0 0 n run.old run.new }
     ensures wrote_2 { Wrote (λ k. from_above (get_or marks.now (base + k) 0) 1 (get_or run.old k 0)) base 0 n work.old work.new }
 {
+    // By number: nothing is known of what a zip with `iter_mut` wrote.
     for i in 0..n {
         let d = from_above(marks[base + i], 1, run[i]);
         run[i] = d;
@@ -43,6 +44,7 @@ pub fn up_row(work: &[u32], base: usize, n: usize, run: &mut [u32])
     requires n_in_bounds_2 { n ≤ length run.old }
     ensures { Wrote (λ k. from_below (get_or work.now (base + k) 0) (get_or run.old k 0)) 0 0 n run.old run.new }
 {
+    // By number: nothing is known of what a zip with `iter_mut` wrote.
     for i in 0..n {
         run[i] = from_below(work[base + i], run[i]);
     }

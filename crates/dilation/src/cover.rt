@@ -2,8 +2,6 @@
 ghost use Rattle.std.specs.Prelude.{◌≡◌, ◌+◌, ◌≤◌, ◌<◌, length, get_or};
 ghost use Rattle.dilation.specs.Parts.{width_at, Covered, CoveredLeft, Wide};
 
-use numbers::counts::greatest;
-
 fn wide(x: u32) -> usize
     ensures { result ≡ x }
 {
@@ -26,9 +24,9 @@ fn from_left(dist: &[u32], widths: &[u32], n: usize, flags: &mut [u8])
     requires n_in_bounds { n ≤ length flags.old }
     ensures { (length flags.new ≡ length flags.old) × CoveredLeft (width_at dist.now widths.now) n n flags.new }
 {
-    let mut reach = 0;
+    let mut reach = 0usize;
     for i in 0..n {
-        reach = greatest(reach, i + width_at(dist, widths, i));
+        reach = reach.max(i + width_at(dist, widths, i));
         flags[i] = if i < reach { 1 } else { 0 };
     }
 }
@@ -40,10 +38,10 @@ fn from_right(dist: &[u32], widths: &[u32], n: usize, flags: &mut [u8])
     requires covered_left { CoveredLeft (width_at dist.now widths.now) n n flags.old }
     ensures { (length flags.new ≡ length flags.old) × Covered (width_at dist.now widths.now) n flags.new }
 {
-    let mut reach = 0;
+    let mut reach = 0usize;
     for t in 0..n {
         let i = n - 1 - t;
-        reach = greatest(reach, t + width_at(dist, widths, i));
+        reach = reach.max(t + width_at(dist, widths, i));
         if t < reach {
             flags[i] = 1;
         }

@@ -22,13 +22,10 @@ fn narrowed(e: u32, d: u32, w: u32) -> u32
     requires { (d < 4096) × (w ≤ 8192) × (e ≤ square w + square d) }
     ensures { (result ≤ w) × Width e d result }
 {
-    let mut v = w;
-    while 0 < v {
-        let u = v - 1;
+    for u in (0..w).rev() {
         if u * u + d * d < e {
-            return v;
+            return u + 1;
         }
-        v = u;
     }
     0
 }

@@ -1,5 +1,5 @@
 // The cells of a window, told by two bounds.
-ghost use Rattle.std.specs.Prelude.{◌≡◌, true, false, ◌+◌, ◌-◌, ◌*◌, ◌≤◌, ◌<◌, length, get_or};
+ghost use Rattle.std.specs.Prelude.{◌≡◌, true, false, ◌+◌, ◌-◌, ◌*◌, ◌≤◌, ◌<◌, length, get_or, IfSome};
 ghost use Rattle.distance.specs.Wrote.{Wrote};
 ghost use Rattle.dilation.specs.Window.{most, Takes, On, Shaded};
 ghost use Rattle.dilation.specs.Parts.{width_at, Wide, Bounded, RowTold, word_of};
@@ -29,11 +29,11 @@ pub struct Bounds {
 // The greatest bound that is taken: a width is 8192 at most.
 const MOST: u32 = 67108864;
 
-// Whether the limit is told, and taken as a bound.
-pub fn takes(l: Limit) -> bool
-    ensures { result ≡ true → Takes l }
+// The limit as a bound, where it is told and taken.
+pub fn bound(l: Limit) -> Option<u32>
+    ensures { IfSome result (Takes l) }
 {
-    l.told & (l.below <= MOST)
+    l.below.filter(|&n| n <= MOST)
 }
 
 // What stands for a cell's square: below both bounds, between them, beyond the farther one.
@@ -54,6 +54,7 @@ fn write_row(deep: &[u8], far: &[u8], e: u32, base: usize, n: usize, work: &mut 
     requires n_in_bounds_2 { base + n ≤ length work.old }
     ensures { Wrote (λ k. word_of (get_or deep.now k 0) (get_or far.now k 0) e) base 0 n work.old work.new }
 {
+    // By number: nothing is known of what a zip with `iter_mut` wrote.
     for k in 0..n {
         work[base + k] = word(deep[k], far[k], e);
     }
@@ -124,9 +125,7 @@ fn shade_rows(
     down(marks, nx, w, work);
     let mut dist = [NONE; 4096];
     let n = w.right - w.left;
-    let mut j = w.hi;
-    while w.lo < j {
-        j -= 1;
+    for j in (w.lo..w.hi).rev() {
         let base = j * nx + w.left;
         up_row(work, base, n, &mut dist);
         let told = (j % step == phase) | (j + 1 == w.hi);

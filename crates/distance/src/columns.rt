@@ -36,8 +36,8 @@ pub fn first(marks: &[u8], mark: u8, nx: usize, ny: usize, work: &mut [u32])
     requires nx_in_bounds_2 { nx ≤ length work.old }
     ensures { Down mark marks.now nx nx work.old work.new }
 {
-    for k in 0..nx {
-        work[k] = from_above(marks[k], mark, NONE);
+    for (k, &byte) in marks[..nx].iter().enumerate() {
+        work[k] = from_above(byte, mark, NONE);
     }
 }
 
@@ -50,6 +50,7 @@ pub fn down(marks: &[u8], mark: u8, nx: usize, ny: usize, cells: usize, work: &m
     requires down { Down mark marks.now nx nx work.old work.old }
     ensures { Down mark marks.now nx cells work.old work.new }
 {
+    // Two places of one slice, by their numbers.
     for k in nx..cells {
         work[k] = from_above(marks[k], mark, work[k - nx]);
     }
@@ -62,9 +63,7 @@ pub fn up(nx: usize, ny: usize, cells: usize, work: &mut [u32])
     requires cells_in_bounds { cells ≤ length work.old }
     ensures { Raised nx ny 0 work.old work.new }
 {
-    let mut k = cells - nx;
-    while k > 0 {
-        k -= 1;
+    for k in (0..cells - nx).rev() {
         work[k] = from_below(work[k], work[k + nx]);
     }
 }

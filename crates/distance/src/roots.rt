@@ -22,7 +22,7 @@ pub fn distances(squares: &[u32], n: usize, out: &mut [f64])
     requires n_in_bounds_2 { n ≤ length out.old }
     ensures { out.new ≡ distances_of n squares.now out.old }
 {
-    for k in 0..n {
-        out[k] = distance_of(squares[k]);
+    for (k, &square) in squares[..n].iter().enumerate() {
+        out[k] = distance_of(square);
     }
 }

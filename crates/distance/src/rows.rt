@@ -18,17 +18,15 @@ fn pop(work: &[u32], s: usize, nx: usize, q: u32, key: u32, n: usize) -> usize
     requires key_bound { key ≤ 33538050 }
     ensures { Popped work.now s q key n result }
 {
-    let mut r = n;
-    while r > 0 {
-        let k = s + 3 * (r - 1);
-        let p = work[k];
-        let t = work[k + 2];
-        if work[k + 1] + 2 * (t * (q - p)) <= key {
-            return r;
+    for k in (0..n).rev() {
+        let i = s + 3 * k;
+        let p = work[i];
+        let t = work[i + 2];
+        if work[i + 1] + 2 * (t * (q - p)) <= key {
+            return k + 1;
         }
-        r -= 1;
     }
-    r
+    0
 }
 
 // Where two parabolas d columns apart meet, the later one's key being higher by rise.
@@ -136,10 +134,8 @@ fn fill(work: &mut [u32], base: usize, s: usize, nx: usize, n: usize)
     requires n_nonzero { 0 < n }
     ensures { Filled s nx n base 0 work.old work.new }
 {
-    let mut k = n;
     let mut e = nx;
-    while k > 0 {
-        k -= 1;
+    for k in (0..n).rev() {
         let i = s + 3 * k;
         let p = work[i];
         let key = work[i + 1];

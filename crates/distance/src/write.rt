@@ -6,7 +6,5 @@ pub fn put(work: &mut [u32], start: usize, n: usize, v: u32)
     requires { start + n ≤ length work.old }
     ensures { Wrote (λ _. v) start 0 n work.old work.new }
 {
-    for k in 0..n {
-        work[start + k] = v;
-    }
+    work[start..start + n].fill(v);
 }

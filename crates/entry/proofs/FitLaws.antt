@@ -29,8 +29,7 @@ use Rattle.raster.specs.Grid.{spans_of, fit_of}
 use Rattle.entry.specs.Regions.{pocket_of}
 use Rattle.entry.specs.Questions.{f80, f100, above_zero, absent_or, given_or, fine_for, cell_of, placed, astray, all_placed, corners_of, resolution_fit, ranges_fit, shapes_fit}
 use Rattle.entry.specs.declared.params.AdaptiveParams.{AdaptiveParams}
-use Rattle.entry.specs.declared.params.Setting.{Setting}
-use Rattle.entry.specs.declared.params.Setting.TheVariants.{Absent, Given}
+use Rattle.std.specs.Prelude.{Option, None, Some}
 use Rattle.entry.proofs.RangeLaws.{diameter_is}
 use Rattle.entry.proofs.ShapeLaws.{shapes_held, shapes_all, outer-some}
 
@@ -96,10 +95,10 @@ share_fit d h k =
     let r = mono_80 d f100 D known.1 k in
     rw (between (div binary64 c01 f80) (div binary64 d f80) (div binary64 f100 f80) eightieths.0 eightieths.1 l r, lt_le f0 (div binary64 c01 f80) (div binary64 d f80) eightieth_low l)
 
-setting_fit : (d x : Float) (s : Setting) → above_zero x ≡ true → absent_or (fine_for d) s ≡ true → above_zero (given_or x s) ≡ true
+setting_fit : (d x : Float) (s : Option Float) → above_zero x ≡ true → absent_or (fine_for d) s ≡ true → above_zero (given_or x s) ≡ true
 unfolding absent_or given_or fine_for
-setting_fit d x Absent a h = a
-setting_fit d x (Given y) a h = (both (above_zero y) _ h).0
+setting_fit d x None a h = a
+setting_fit d x (Some y) a h = (both (above_zero y) _ h).0
 
 pub cell_fit_lem : (p : AdaptiveParams) → resolution_fit p ≡ true → ranges_fit p ≡ true → above_zero (cell_of p) ≡ true
 unfolding resolution_fit cell_of

@@ -1,18 +1,31 @@
 -- What a yes to a question says of the parameters and of what is lent. Assumes nothing.
-use mathlib.Core.Path.{◌≡◌}
+use mathlib.Core.Path.{◌≡◌, refl}
 use mathlib.Core.Bool.{Bool, true, ◌&&◌}
 use Prim.Native.Nat.{◌+◌, ◌*◌}
 use lib.Dec.{leb}
-use lib.Ieee.{binary64, sub, div, lt, le}
+use Rattle.std.specs.Prelude.{Option, None, Some, unwrap_or, MatchOption, IsTrue}
+use lib.Ieee.{Float, binary64, sub, div, lt, le}
 use borrow.Author.Tests.{leb-true}
 use Rattle.loops.proofs.Cases.{both}
 use Rattle.numbers.specs.Order.{is_finite}
 use Rattle.numbers.specs.Small.{f1, f180, f1000, c01}
 use Rattle.raster.specs.declared.grid.Grid.{Grid}
 use Rattle.setup.specs.Layout.{Lent}
-use Rattle.entry.specs.Questions.{f100, f10000, absent_or, at_most1000, above_zero, cell_of, engagement_fit, helix_fit, ranges_fit, lent_fit}
+use Rattle.entry.specs.Questions.{f100, f10000, absent_or, given_or, at_most1000, above_zero, cell_of, engagement_fit, helix_fit, ranges_fit, lent_fit}
 use Rattle.entry.specs.declared.params.AdaptiveParams.{AdaptiveParams}
 use Rattle.entry.specs.declared.judge.Lengths.{Lengths}
+
+-- what stands, else a default
+pub given-is : (d : Float) (s : Option Float) → unwrap_or s d ≡ given_or d s
+unfolding given_or
+given-is d None = refl
+given-is d (Some x) = refl
+
+-- what stands passes, where anything does
+pub test-by : (test : Float → Bool) (P : Float → Type 0) (s : Option Float) (b : Bool) → MatchOption s (IsTrue b) P → ((x : Float) → P x → b ≡ test x) → b ≡ absent_or test s
+unfolding absent_or
+test-by test P None b h k = h
+test-by test P (Some x) b h k = k x h
 
 pub engagement_is : (p : AdaptiveParams) → engagement_fit p ≡ true → (le f1 p.max_engagement_deg ≡ true) × (lt p.max_engagement_deg f180 ≡ true)
 unfolding engagement_fit

@@ -1,4 +1,7 @@
 -- Question 14: the raster of a job. Assumes nothing.
+use Rattle.std.specs.Prelude.{Err, Ok, Result}
+use Rattle.raster.specs.declared.grid.Refusal.{Refusal}
+use Rattle.raster.specs.declared.grid.Refusal.TheVariants.{Unfit, TooLarge}
 use mathlib.Core.Path.{◌≡◌, refl, sym, ap, ◌∙◌, subst}
 use mathlib.Core.Bool.{Bool, true, false, cond, ◌&&◌}
 use mathlib.Core.List.{List}
@@ -15,24 +18,22 @@ use Rattle.geom.specs.declared.region.Region.{Region}
 use Rattle.geom.specs.declared.region.Corners.{Corners}
 use Rattle.raster.specs.Grid.{Sides, grid_of, new_grid, sized_of, fit_of}
 use Rattle.raster.specs.declared.grid.Grid.{Grid}
-use Rattle.raster.specs.declared.grid.Raster.{Raster}
-use Rattle.raster.specs.declared.grid.Raster.TheVariants.{Unfit, TooLarge, Of}
 use Rattle.entry.specs.Regions.{pocket_of}
 use Rattle.entry.specs.Questions.{cell_of, corners_of, job_grid, small, raster_fit, raster_of}
 use Rattle.entry.specs.declared.params.AdaptiveParams.{AdaptiveParams}
 
 -- what the answer of `Grid::new` says of the raster h and of the tests on its corners and cell
-abbrev Told : Bool → Grid → Raster → Type 0
-Told fit h Unfit = fit ≡ false
-Told fit h TooLarge = small h ≡ false
-Told fit h (Of g) = (g ≡ h) × (small h ≡ true)
+abbrev Told : Bool → Grid → Result Grid Refusal → Type 0
+Told fit h (Err Unfit) = fit ≡ false
+Told fit h (Err TooLarge) = small h ≡ false
+Told fit h (Ok g) = (g ≡ h) × (small h ≡ true)
 
 new_told : (lo hi : Vec2) (cell margin : Float) → Told (fit_of lo hi cell) (grid_of lo hi cell margin) (new_grid lo hi cell margin)
 unfolding new_grid sized_of
 new_told lo hi cell margin =
     let g = grid_of lo hi cell margin in
     let P = Told (fit_of lo hi cell) g in
-    by_test P (fit_of lo hi cell) (cond (small g) (Of g) TooLarge) Unfit (λ t. by_test P (small g) (Of g) TooLarge (λ u. (refl, u)) (λ u. u)) (λ t. t)
+    by_test P (fit_of lo hi cell) (cond (small g) (Ok g) (Err TooLarge)) (Err Unfit) (λ t. by_test P (small g) (Ok g) (Err TooLarge) (λ u. (refl, u)) (λ u. u)) (λ t. t)
 
 small-sides : (lo hi : Vec2) (cell margin : Float) → small (grid_of lo hi cell margin) ≡ true → Sides (grid_of lo hi cell margin)
 unfolding grid_of
@@ -44,7 +45,7 @@ small-sides lo hi cell margin h =
 
 module _ (p : AdaptiveParams) (vs : List Float) (lens regions : List ℕ) where
   -- what the steps of the code come to
-  pub raster_is : (region : Region) (c : Corners) (cell : Float) (r : Raster) → region ≡ pocket_of lens regions → c ≡ bounds_of vs lens region → cell ≡ cell_of p → r ≡ new_grid c.lo c.hi cell (mul binary64 f2 cell) → r ≡ raster_of p vs lens regions
+  pub raster_is : (region : Region) (c : Corners) (cell : Float) (r : Result Grid Refusal) → region ≡ pocket_of lens regions → c ≡ bounds_of vs lens region → cell ≡ cell_of p → r ≡ new_grid c.lo c.hi cell (mul binary64 f2 cell) → r ≡ raster_of p vs lens regions
   unfolding raster_of
   raster_is region c cell r P C L R =
       R ∙ ap (λ (z : Float). new_grid c.lo c.hi z (mul binary64 f2 z)) L
@@ -63,7 +64,7 @@ module _ (p : AdaptiveParams) (vs : List Float) (lens regions : List ℕ) where
   raster_told = let c = corners_of vs lens regions in new_told c.lo c.hi (cell_of p) (mul binary64 f2 (cell_of p))
 
   -- by the answer of the code
-  module _ (g : Grid) (e : raster_of p vs lens regions ≡ Of g) where
+  module _ (g : Grid) (e : raster_of p vs lens regions ≡ Ok g) where
     of_told : (g ≡ job_grid p vs lens regions) × (small (job_grid p vs lens regions) ≡ true)
     of_told = subst (Told fit (job_grid p vs lens regions)) e raster_told
 
@@ -77,9 +78,8 @@ module _ (p : AdaptiveParams) (vs : List Float) (lens regions : List ℕ) where
     pub raster_sides : Sides g
     raster_sides = subst Sides (sym raster_grid) (fit_sides raster_yes)
 
-  pub raster_no : raster_of p vs lens regions ≡ TooLarge → raster_fit p vs lens regions ≡ false
+  -- after 11 to 13 the one refusal is that it is too large
+  pub raster_no : (r : Refusal) → raster_of p vs lens regions ≡ Err r → fit ≡ true → raster_fit p vs lens regions ≡ false
   unfolding raster_fit
-  raster_no e = subst (Told fit (job_grid p vs lens regions)) e raster_told
-
-  pub raster_unmet : {A : Type 0} → raster_of p vs lens regions ≡ Unfit → fit ≡ true → A
-  raster_unmet e h = never (sym (subst (Told fit (job_grid p vs lens regions)) e raster_told) ∙ h)
+  raster_no TooLarge e h = subst (Told fit (job_grid p vs lens regions)) e raster_told
+  raster_no Unfit e h = never (sym (subst (Told fit (job_grid p vs lens regions)) e raster_told) ∙ h)

@@ -1,5 +1,6 @@
 -- The questions of document 01 on a job, 1 to 15, in its words and order; the first no is the answer. Definitions only.
-use Rattle.std.specs.Prelude.{ℕ, ◌+◌, ◌*◌, Bool, true, cond, not, ◌&&◌, ◌||◌, List, [], ◌∷◌, ◌++◌, length, get_or, eqb, ltb, leb, Float}
+use Rattle.raster.specs.declared.grid.Refusal.{Refusal}
+use Rattle.std.specs.Prelude.{ℕ, ◌+◌, ◌*◌, Bool, true, cond, not, ◌&&◌, ◌||◌, List, [], ◌∷◌, ◌++◌, length, get_or, eqb, ltb, leb, Float, Option, None, Some, Result, Ok, Err}
 use Rattle.std.specs.Float.{nan, binary64}
 use Rattle.std.specs.Float.Ieee.{of_bits, add, sub, mul, div, lt, le}
 use Rattle.loops.specs.Loop.{any}
@@ -10,14 +11,11 @@ use Rattle.geom.specs.Region.{bounds_of}
 use Rattle.geom.specs.declared.region.Corners.{Corners}
 use Rattle.raster.specs.Grid.{grid_of, new_grid}
 use Rattle.raster.specs.declared.grid.Grid.{Grid}
-use Rattle.raster.specs.declared.grid.Raster.{Raster}
 use Rattle.entry.specs.Regions.{sum_of, pocket_of}
-use Rattle.entry.specs.declared.params.Setting.{Setting}
-use Rattle.entry.specs.declared.params.Setting.TheVariants.{Absent, Given}
 use Rattle.entry.specs.declared.params.AdaptiveParams.{AdaptiveParams}
 use Rattle.entry.specs.declared.judge.Lengths.{Lengths}
-use Rattle.entry.specs.declared.judge.Judged.{Judged}
-use Rattle.entry.specs.declared.judge.Judged.TheVariants.{Refused, Fit}
+use Rattle.entry.specs.declared.questions.Question.{Question}
+use Rattle.entry.specs.declared.questions.Question.TheVariants.{Diameter, Engagement, StepDown, Depth, Leave, Safe, Feeds, Ramp, Helix, Thinning, Resolution, Ranges, Shapes, Raster, Lent}
 
 -- ---- numbers
 
@@ -45,13 +43,13 @@ unfoldable pub above_zero : Float → Bool
 above_zero x = is_finite x && lt f0 x
 
 -- absent, or passing the test
-unfoldable pub absent_or : (Float → Bool) → Setting → Bool
-absent_or test Absent = true
-absent_or test (Given x) = test x
+unfoldable pub absent_or : (Float → Bool) → Option Float → Bool
+absent_or test None = true
+absent_or test (Some x) = test x
 
-unfoldable pub given_or : Float → Setting → Float
-given_or d Absent = d
-given_or d (Given x) = x
+unfoldable pub given_or : Float → Option Float → Float
+given_or d None = d
+given_or d (Some x) = x
 
 -- the cell: resolution, else diameter/80; the helix radius that is tried first: as given, else 0.3 * diameter
 unfoldable pub cell_of : AdaptiveParams → Float
@@ -176,7 +174,7 @@ unfoldable pub raster_fit : AdaptiveParams → List Float → List ℕ → List 
 raster_fit p vs lens regions = small (job_grid p vs lens regions)
 
 -- what `Grid::new` answers: the raster, or that it is too large; its other refusals are never met after 1 to 13 (proofs/FitLaws.antt)
-unfoldable pub raster_of : AdaptiveParams → List Float → List ℕ → List ℕ → Raster
+unfoldable pub raster_of : AdaptiveParams → List Float → List ℕ → List ℕ → Result Grid Refusal
 raster_of p vs lens regions = let c = corners_of vs lens regions in new_grid c.lo c.hi (cell_of p) (mul binary64 f2 (cell_of p))
 
 -- ---- what is lent
@@ -189,27 +187,60 @@ lent_fit g l =
 
 -- ---- the first no
 
--- the number of the first that is a no, counted from n on; 0 where none is
-unfoldable pub first_no : ℕ → List Bool → ℕ
-first_no n [] = 0
-first_no n (q ∷ qs) = cond q (first_no (n + 1) qs) n
+-- the number of a question
+unfoldable pub number_of : Question → ℕ
+number_of Diameter = 1
+number_of Engagement = 2
+number_of StepDown = 3
+number_of Depth = 4
+number_of Leave = 5
+number_of Safe = 6
+number_of Feeds = 7
+number_of Ramp = 8
+number_of Helix = 9
+number_of Thinning = 10
+number_of Resolution = 11
+number_of Ranges = 12
+number_of Shapes = 13
+number_of Raster = 14
+number_of Lent = 15
 
--- 1 to 6, 7 to 12, 13 to 15
-abbrev pub first_six : AdaptiveParams → List Bool
-first_six p = diameter_fit p ∷ engagement_fit p ∷ step_down_fit p ∷ depth_fit p ∷ leave_fit p ∷ safe_fit p ∷ []
+-- a question with its answer
+pub record Answer : Type 0 where
+  pub question : Question
+  pub fit : Bool
 
-abbrev pub next_six : AdaptiveParams → List Bool
-next_six p = feeds_fit p ∷ ramp_fit p ∷ helix_fit p ∷ thinning_fit p ∷ resolution_fit p ∷ ranges_fit p ∷ []
+abbrev pub to : Question → Bool → Answer
+to question fit = record { question = question; fit = fit }
 
-abbrev pub last_three : AdaptiveParams → Bool → List Float → List ℕ → List ℕ → Lengths → List Bool
-last_three p whole vs lens regions l = shapes_fit whole vs lens regions ∷ raster_fit p vs lens regions ∷ lent_fit (job_grid p vs lens regions) l ∷ []
+-- the first that is a no
+unfoldable pub first_no : List Answer → Option Question
+first_no [] = None
+first_no (a ∷ rest) = cond a.fit (first_no rest) (Some a.question)
 
-unfoldable pub refusal_of : AdaptiveParams → Bool → List Float → List ℕ → List ℕ → Lengths → ℕ
-refusal_of p whole vs lens regions l = first_no 1 (first_six p ++ (next_six p ++ last_three p whole vs lens regions l))
+-- of a single one
+abbrev pub asked : Question → Bool → Result Unit Question
+asked question fit = cond fit (Ok tt) (Err question)
 
--- the raster where no answer was no
-abbrev pub judged_by : ℕ → Grid → Judged
-judged_by n g = cond (eqb n 0) (Fit g) (Refused n)
+-- 1 to 12, 13 to 15
+abbrev pub first_twelve : AdaptiveParams → List Answer
+first_twelve p =
+    to Diameter (diameter_fit p) ∷ to Engagement (engagement_fit p) ∷ to StepDown (step_down_fit p) ∷ to Depth (depth_fit p)
+    ∷ to Leave (leave_fit p) ∷ to Safe (safe_fit p) ∷ to Feeds (feeds_fit p) ∷ to Ramp (ramp_fit p)
+    ∷ to Helix (helix_fit p) ∷ to Thinning (thinning_fit p) ∷ to Resolution (resolution_fit p) ∷ to Ranges (ranges_fit p) ∷ []
 
-unfoldable pub judged_of : AdaptiveParams → Bool → List Float → List ℕ → List ℕ → Lengths → Judged
+abbrev pub last_three : AdaptiveParams → Bool → List Float → List ℕ → List ℕ → Lengths → List Answer
+last_three p whole vs lens regions l =
+    to Shapes (shapes_fit whole vs lens regions) ∷ to Raster (raster_fit p vs lens regions) ∷ to Lent (lent_fit (job_grid p vs lens regions) l) ∷ []
+
+unfoldable pub refusal_of : AdaptiveParams → Bool → List Float → List ℕ → List ℕ → Lengths → Option Question
+refusal_of p whole vs lens regions l = first_no (first_twelve p ++ last_three p whole vs lens regions l)
+
+-- what is asked for, where no answer was no
+unfoldable pub judged_by : {A : Type 0} → Option Question → A → Result A Question
+judged_by None a = Ok a
+judged_by (Some q) a = Err q
+
+-- the raster of the job
+unfoldable pub judged_of : AdaptiveParams → Bool → List Float → List ℕ → List ℕ → Lengths → Result Grid Question
 judged_of p whole vs lens regions l = judged_by (refusal_of p whole vs lens regions l) (job_grid p vs lens regions)

@@ -2,14 +2,7 @@
 ghost use Rattle.std.specs.Prelude.{◌≡◌};
 ghost use Rattle.entry.specs.Questions.{cell_of, helix_of};
 
-// A setting that may be left out.
-#[derive(Clone, Copy)]
-pub enum Setting {
-    Absent,
-    Given(f64),
-}
-
-// Lengths are mm, angles degrees, feeds mm a minute.
+// Lengths are mm, angles degrees, feeds mm a minute; three settings may be left out.
 #[derive(Clone, Copy)]
 pub struct AdaptiveParams {
     pub tool_diameter: f64,
@@ -23,9 +16,9 @@ pub struct AdaptiveParams {
     pub plunge_feed: f64,
     pub link_feed: f64,
     pub helix_ramp_deg: f64,
-    pub helix_radius: Setting,
-    pub chip_thinning_max: Setting,
-    pub resolution: Setting,
+    pub helix_radius: Option<f64>,
+    pub chip_thinning_max: Option<f64>,
+    pub resolution: Option<f64>,
     pub keep_tool_down: bool,
 }
 
@@ -33,20 +26,12 @@ pub struct AdaptiveParams {
 pub fn cell_of(p: AdaptiveParams) -> f64
     ensures { result ≡ cell_of p }
 {
-    let r = p.resolution;
-    match r {
-        Setting::Given(x) => x,
-        Setting::Absent => p.tool_diameter / 80.0,
-    }
+    p.resolution.unwrap_or(p.tool_diameter / 80.0)
 }
 
 // The radius of a helix that is tried first.
 pub fn helix_of(p: AdaptiveParams) -> f64
     ensures { result ≡ helix_of p }
 {
-    let h = p.helix_radius;
-    match h {
-        Setting::Given(x) => x,
-        Setting::Absent => 0.3 * p.tool_diameter,
-    }
+    p.helix_radius.unwrap_or(0.3 * p.tool_diameter)
 }

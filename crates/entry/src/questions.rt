@@ -1,9 +1,45 @@
 // Questions 1 to 12 of document 01, on the parameters. Whether the answer is yes.
 ghost use Rattle.std.specs.Prelude.{◌≡◌};
-ghost use Rattle.entry.specs.Questions.{above_zero, one_or_more, fine_for, absent_or, diameter_fit, engagement_fit, step_down_fit, depth_fit, leave_fit, safe_fit, feeds_fit, ramp_fit, helix_fit, at_most1000, thinning_fit, resolution_fit, ranges_fit, first_no, first_six, next_six};
+ghost use Rattle.entry.specs.Questions.{above_zero, one_or_more, fine_for, absent_or, diameter_fit, engagement_fit, step_down_fit, depth_fit, leave_fit, safe_fit, feeds_fit, ramp_fit, helix_fit, at_most1000, thinning_fit, resolution_fit, ranges_fit, number_of, asked, first_no, first_twelve, judged_by};
 
-use super::params::{AdaptiveParams, Setting, cell_of};
+use super::params::{AdaptiveParams, cell_of};
 use numbers::order::is_finite;
+
+// Document 01's questions, in its order, by what each asks about.
+#[derive(Clone, Copy)]
+pub enum Question {
+    Diameter = 1,
+    Engagement = 2,
+    StepDown = 3,
+    Depth = 4,
+    Leave = 5,
+    Safe = 6,
+    Feeds = 7,
+    Ramp = 8,
+    Helix = 9,
+    Thinning = 10,
+    Resolution = 11,
+    Ranges = 12,
+    Shapes = 13,
+    Raster = 14,
+    Lent = 15,
+}
+
+impl Question {
+    // Its number in document 01.
+    pub fn number(self) -> u32
+        ensures { result ≡ number_of self }
+    {
+        self as u32
+    }
+}
+
+// A no is the answer.
+pub fn ask(question: Question, fit: bool) -> Result<(), Question>
+    ensures { result ≡ asked question fit }
+{
+    if fit { Ok(()) } else { Err(question) }
+}
 
 fn above_zero(x: f64) -> bool
     ensures { result ≡ above_zero x }
@@ -75,40 +111,25 @@ fn ramp_fits(p: AdaptiveParams) -> bool
 fn helix_fits(p: AdaptiveParams) -> bool
     ensures { result ≡ helix_fit p }
 {
-    let h = p.helix_radius;
-    match h {
-        Setting::Given(x) => above_zero(x),
-        Setting::Absent => true,
-    }
+    p.helix_radius.is_none_or(above_zero)
 }
 
 fn thinning_fits(p: AdaptiveParams) -> bool
     ensures { result ≡ thinning_fit p }
 {
-    let t = p.chip_thinning_max;
-    match t {
-        Setting::Given(x) => one_or_more(x),
-        Setting::Absent => true,
-    }
+    p.chip_thinning_max.is_none_or(one_or_more)
 }
 
 fn resolution_fits(p: AdaptiveParams) -> bool
     ensures { result ≡ resolution_fit p }
 {
-    let r = p.resolution;
-    match r {
-        Setting::Given(x) => fine_for(p.tool_diameter, x),
-        Setting::Absent => true,
-    }
+    p.resolution.is_none_or(|x| fine_for(p.tool_diameter, x))
 }
 
-fn is_short(h: Setting) -> bool
+fn is_short(h: Option<f64>) -> bool
     ensures { result ≡ absent_or at_most1000 h }
 {
-    match h {
-        Setting::Given(x) => x <= 1000.0,
-        Setting::Absent => true,
-    }
+    h.is_none_or(|x| x <= 1000.0)
 }
 
 fn ranges_fit(p: AdaptiveParams) -> bool
@@ -121,52 +142,20 @@ fn ranges_fit(p: AdaptiveParams) -> bool
     ((0.1 <= d) & (d <= 100.0)) & ((d / 1000.0 <= cell_of(p)) & rest)
 }
 
-// The first no of 1 to 6; 0 where none is.
-pub fn first_six(p: AdaptiveParams) -> u32
-    ensures { result ≡ first_no 1 (first_six p) }
+// Questions 1 to 12: the first no.
+pub fn ask_of(p: AdaptiveParams) -> Result<(), Question>
+    ensures { result ≡ judged_by (first_no (first_twelve p)) tt }
 {
-    if !diameter_fits(p) {
-        return 1;
-    }
-    if !engagement_fits(p) {
-        return 2;
-    }
-    if !step_down_fits(p) {
-        return 3;
-    }
-    if !depth_fits(p) {
-        return 4;
-    }
-    if !leave_fits(p) {
-        return 5;
-    }
-    if !safe_fits(p) {
-        return 6;
-    }
-    0
-}
-
-// The first no of 7 to 12; 0 where none is.
-pub fn next_six(p: AdaptiveParams) -> u32
-    ensures { result ≡ first_no 7 (next_six p) }
-{
-    if !feeds_fit(p) {
-        return 7;
-    }
-    if !ramp_fits(p) {
-        return 8;
-    }
-    if !helix_fits(p) {
-        return 9;
-    }
-    if !thinning_fits(p) {
-        return 10;
-    }
-    if !resolution_fits(p) {
-        return 11;
-    }
-    if !ranges_fit(p) {
-        return 12;
-    }
-    0
+    ask(Question::Diameter, diameter_fits(p))?;
+    ask(Question::Engagement, engagement_fits(p))?;
+    ask(Question::StepDown, step_down_fits(p))?;
+    ask(Question::Depth, depth_fits(p))?;
+    ask(Question::Leave, leave_fits(p))?;
+    ask(Question::Safe, safe_fits(p))?;
+    ask(Question::Feeds, feeds_fit(p))?;
+    ask(Question::Ramp, ramp_fits(p))?;
+    ask(Question::Helix, helix_fits(p))?;
+    ask(Question::Thinning, thinning_fits(p))?;
+    ask(Question::Resolution, resolution_fits(p))?;
+    ask(Question::Ranges, ranges_fit(p))
 }

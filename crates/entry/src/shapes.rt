@@ -8,8 +8,8 @@ fn sum(l: &[u32]) -> usize
     ensures { result ≡ sum_of l.now }
 {
     let mut n = 0;
-    for k in 0..l.len() {
-        n += l[k] as usize;
+    for x in l {
+        n += *x as usize;
     }
     n
 }
@@ -18,9 +18,8 @@ fn sum(l: &[u32]) -> usize
 fn all_from(a: u32, e: u32, l: &[u32]) -> bool
     ensures { result ≡ all_from a e l.now }
 {
-    for k in 0..l.len() {
-        let x = l[k];
-        if (x < a) | (e < x) {
+    for x in l {
+        if (*x < a) | (e < *x) {
             return false;
         }
     }
@@ -36,8 +35,8 @@ fn is_placed(x: f64) -> bool
 fn all_placed(vs: &[f64]) -> bool
     ensures { result ≡ all_placed vs.now }
 {
-    for k in 0..vs.len() {
-        if !is_placed(vs[k]) {
+    for x in vs {
+        if !is_placed(*x) {
             return false;
         }
     }

@@ -14,7 +14,8 @@ use Rattle.loops.proofs.Cases.{by_cases}
 use Rattle.events.specs.Chunk.{Chunk}
 use Rattle.events.specs.Lent.{Triple, single, read_rows, read_triples, chunk_of, chunk_at, push, read_chunks, decode, Holds}
 use Rattle.events.specs.Read.{read_one, read_whole, read_at, meant, list_from}
-use Rattle.events.specs.declared.list.Read.TheVariants.{Cut, Unfit}
+use Rattle.std.specs.Prelude.{Some, None}
+use Rattle.events.specs.declared.list.Read.TheVariants.{Cut}
 use Rattle.events.proofs.LentLaws.{holds-decode, holds-long}
 
 -- a rest of one or two counts for none
@@ -74,17 +75,17 @@ part_long ts first count h = omega (arith, length-take count (drop first ts), le
 
 -- a row whose triples are there
 fitting : (ts : List Float) (kind first count : ℕ) → first + count ≤ length (read_triples ts)
-    → meant ts (cond (eqb kind 4) (Cut first count) (cond (eqb count 1) (read_one ts kind first) Unfit)) ≡ chunk_of kind (take count (drop first (read_triples ts)))
+    → meant ts (cond (eqb kind 4) (Some (Cut first count)) (cond (eqb count 1) (read_one ts kind first) None)) ≡ chunk_of kind (take count (drop first (read_triples ts)))
 fitting ts kind first count h =
     by_cases (eqb kind 4)
-    (λ e. subst (λ (k : ℕ). meant ts (cond (eqb k 4) (Cut first count) (cond (eqb count 1) (read_one ts k first) Unfit)) ≡ chunk_of k (take count (drop first (read_triples ts))))
+    (λ e. subst (λ (k : ℕ). meant ts (cond (eqb k 4) (Some (Cut first count)) (cond (eqb count 1) (read_one ts k first) None)) ≡ chunk_of k (take count (drop first (read_triples ts))))
     (sym (eqb-true kind 4 e)) (unfold chunk_of in refl))
-    (λ e. ap (λ (b : Bool). meant ts (cond b (Cut first count) (cond (eqb count 1) (read_one ts kind first) Unfit))) e
+    (λ e. ap (λ (b : Bool). meant ts (cond b (Some (Cut first count)) (cond (eqb count 1) (read_one ts kind first) None))) e
     ∙ by_cases (eqb count 1)
-    (λ d. ap (λ (b : Bool). meant ts (cond b (read_one ts kind first) Unfit)) d
+    (λ d. ap (λ (b : Bool). meant ts (cond b (read_one ts kind first) None)) d
     ∙ one ts kind first e
     ∙ ap (chunk_of kind) (sym (one_triple ts first (omega (arith, eqb-true count 1 d))) ∙ ap (λ (n : ℕ). take n (drop first (read_triples ts))) (sym (eqb-true count 1 d))))
-    (λ d. ap (λ (b : Bool). meant ts (cond b (read_one ts kind first) Unfit)) d
+    (λ d. ap (λ (b : Bool). meant ts (cond b (read_one ts kind first) None)) d
     ∙ not_one kind (take count (drop first (read_triples ts))) e (λ z. eqb-false count 1 d (sym (part_long (read_triples ts) first count h) ∙ z))))
 
 read_is : (ts : List Float) (kind first count : ℕ) → meant ts (read_whole ts kind first count) ≡ chunk_at (record { kind = kind; first = first; count = count }) (read_triples ts)

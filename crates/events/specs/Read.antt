@@ -1,5 +1,5 @@
 -- One row read from the lent slices, by number, and a pass cleared from its triples. Definitions only.
-use Rattle.std.specs.Prelude.{ℕ, zero, suc, ◌+◌, ◌-◌, ◌*◌, ◌/◌, cond, List, [], ◌∷◌, ◌++◌, map, length, take, drop, get_or, eqb, ltb, Float}
+use Rattle.std.specs.Prelude.{ℕ, zero, suc, ◌+◌, ◌-◌, ◌*◌, ◌/◌, cond, List, [], ◌∷◌, ◌++◌, map, length, take, drop, get_or, eqb, ltb, Option as Maybe, Some, None, Float}
 use Rattle.std.proofs.Math.Option.{Option, none, some}
 use Rattle.std.specs.Float.{nan}
 use Rattle.loops.specs.Loop.{loop}
@@ -10,7 +10,16 @@ use Rattle.raster.specs.declared.grid.Grid.{Grid}
 use Rattle.events.specs.Chunk.{Point, Chunk, helix, plunge, link, cut}
 use Rattle.events.specs.Lent.{point_of, read_triples, push}
 use Rattle.events.specs.declared.list.Read.{Read}
-use Rattle.events.specs.declared.list.Read.TheVariants.{Helix, Plunge, Link, Cut, Unfit}
+use Rattle.events.specs.declared.list.Read.TheVariants.{Helix, Plunge, Link, Cut}
+use Rattle.events.specs.declared.list.Kind.{Kind}
+use Rattle.events.specs.declared.list.Kind.TheVariants as kind
+
+-- the number of a row's kind
+abbrev pub number_of : Kind → ℕ
+number_of kind.Helix = 1
+number_of kind.Plunge = 2
+number_of kind.Link = 3
+number_of kind.Cut = 4
 
 -- triple n: its point, and its third number
 abbrev pub spot_at : List Float → ℕ → Vec2
@@ -20,28 +29,28 @@ abbrev pub value_at : List Float → ℕ → Float
 value_at ts n = get_or ts (n * 3 + 2) nan
 
 -- a row of one triple
-unfoldable pub read_one : List Float → ℕ → ℕ → Read
+unfoldable pub read_one : List Float → ℕ → ℕ → Maybe Read
 read_one ts kind n =
-    cond (eqb kind 1) (Helix (spot_at ts n) (value_at ts n))
-    (cond (eqb kind 2) (Plunge (spot_at ts n))
-    (cond (eqb kind 3) (Link (spot_at ts n)) Unfit))
+    cond (eqb kind 1) (Some (Helix (spot_at ts n) (value_at ts n)))
+    (cond (eqb kind 2) (Some (Plunge (spot_at ts n)))
+    (cond (eqb kind 3) (Some (Link (spot_at ts n))) None))
 
-unfoldable pub read_whole : List Float → ℕ → ℕ → ℕ → Read
+unfoldable pub read_whole : List Float → ℕ → ℕ → ℕ → Maybe Read
 read_whole ts kind first count =
-    cond (ltb (length ts / 3) (first + count)) Unfit
-    (cond (eqb kind 4) (Cut first count)
-    (cond (eqb count 1) (read_one ts kind first) Unfit))
+    cond (ltb (length ts / 3) (first + count)) None
+    (cond (eqb kind 4) (Some (Cut first count))
+    (cond (eqb count 1) (read_one ts kind first) None))
 
-unfoldable pub read_at : List ℕ → List Float → ℕ → Read
+unfoldable pub read_at : List ℕ → List Float → ℕ → Maybe Read
 read_at rows ts k = read_whole ts (get_or rows (k * 3) 0) (get_or rows (k * 3 + 1) 0) (get_or rows (k * 3 + 2) 0)
 
 -- the chunk that a row so read stands for
-abbrev pub meant : List Float → Read → Option Chunk
-meant ts (Helix c rad) = some (helix c rad)
-meant ts (Plunge p) = some (plunge p)
-meant ts (Link p) = some (link p)
-meant ts (Cut first count) = some (cut (map point_of (take count (drop first (read_triples ts)))))
-meant ts Unfit = none
+abbrev pub meant : List Float → Maybe Read → Option Chunk
+meant ts (Some (Helix c rad)) = some (helix c rad)
+meant ts (Some (Plunge p)) = some (plunge p)
+meant ts (Some (Link p)) = some (link p)
+meant ts (Some (Cut first count)) = some (cut (map point_of (take count (drop first (read_triples ts)))))
+meant ts None = none
 
 -- n rows from row k on, read one by one
 unfoldable pub list_from : List ℕ → List Float → ℕ → ℕ → Option (List Chunk)

@@ -1,9 +1,26 @@
 // The chunk list: rows of three u32 (kind, first triple, count) and triples of three f64, both lent.
 ghost use Rattle.std.specs.Prelude.{◌≡◌, ◌+◌, ◌*◌, ◌≤◌, length};
 ghost use Rattle.events.specs.Lent.{set_row, set_triple, shift_up};
-ghost use Rattle.events.specs.Read.{spot_at, value_at, read_one, read_at};
+ghost use Rattle.events.specs.Read.{number_of, spot_at, value_at, read_one, read_at};
 
 use geom::vec2::Vec2;
+
+// The kind of a row, which is a number in the slice.
+#[derive(Clone, Copy, PartialEq, Eq, Debug)]
+pub enum Kind {
+    Helix = 1,
+    Plunge = 2,
+    Link = 3,
+    Cut = 4,
+}
+
+impl From<Kind> for u32 {
+    ghost from_gives = { λ k n. n ≡ number_of k };
+
+    fn from(k: Kind) -> u32 {
+        k as u32
+    }
+}
 
 // A row as it is read: the floats of its kind. A cut has many, and carries its first triple's number
 // and their count.
@@ -13,16 +30,15 @@ pub enum Read {
     Plunge(Vec2),
     Link(Vec2),
     Cut(u32, u32),
-    Unfit,
 }
 
 // Row n becomes (kind, first, count).
-pub fn put_row(rows: &mut [u32], n: usize, kind: u32, first: u32, count: u32)
+pub fn put_row(rows: &mut [u32], n: usize, kind: Kind, first: u32, count: u32)
     requires { n * 3 + 3 ≤ length rows.old }
-    ensures { rows.new ≡ set_row n (record { kind = kind; first = first; count = count }) rows.old }
+    ensures { rows.new ≡ set_row n (record { kind = number_of kind; first = first; count = count }) rows.old }
 {
     let at = n * 3;
-    rows[at] = kind;
+    rows[at] = kind.into();
     rows[at + 1] = first;
     rows[at + 2] = count;
 }
@@ -69,26 +85,26 @@ pub fn value(triples: &[f64], n: usize) -> f64
     triples[n * 3 + 2]
 }
 
-// A row of one triple.
-fn read_one(triples: &[f64], kind: u32, n: usize) -> Read
+// A row of one triple, if its kind is one that has one.
+fn read_one(triples: &[f64], kind: u32, n: usize) -> Option<Read>
     requires { n * 3 + 3 ≤ length triples.now }
     ensures { result ≡ read_one triples.now kind n }
 {
     if kind == 1 {
-        return Read::Helix(spot(triples, n), value(triples, n));
+        return Some(Read::Helix(spot(triples, n), value(triples, n)));
     }
     if kind == 2 {
-        return Read::Plunge(spot(triples, n));
+        return Some(Read::Plunge(spot(triples, n)));
     }
     if kind == 3 {
-        return Read::Link(spot(triples, n));
+        return Some(Read::Link(spot(triples, n)));
     }
-    Read::Unfit
+    None
 }
 
-// Row k; unfit where its kind is none, or its triples do not lie in the slice, or a row of one triple
+// Row k; none where its kind is none, or its triples do not lie in the slice, or a row of one triple
 // has another count.
-pub fn read_row(rows: &[u32], triples: &[f64], k: usize) -> Read
+pub fn read_row(rows: &[u32], triples: &[f64], k: usize) -> Option<Read>
     requires { k * 3 + 3 ≤ length rows.now }
     ensures { result ≡ read_at rows.now triples.now k }
 {
@@ -98,13 +114,13 @@ pub fn read_row(rows: &[u32], triples: &[f64], k: usize) -> Read
     let count = rows[at + 2];
     let n = first as usize;
     if triples.len() / 3 < n + count as usize {
-        return Read::Unfit;
+        return None;
     }
     if kind == 4 {
-        return Read::Cut(first, count);
+        return Some(Read::Cut(first, count));
     }
     if count == 1 {
         return read_one(triples, kind, n);
     }
-    Read::Unfit
+    None
 }

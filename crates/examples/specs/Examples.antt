@@ -11,8 +11,7 @@ use Rattle.entry.specs.Questions.{cell_of}
 use Rattle.entry.specs.declared.params.AdaptiveParams.{AdaptiveParams}
 use Rattle.report.specs.Zero.{Lent, lent}
 use Rattle.report.specs.declared.report.AdaptiveReport.{AdaptiveReport}
-use Rattle.planner.specs.Planner.{Job, job, outcome_of}
-use Rattle.planner.specs.declared.outcome.Answer.{Answer}
+use Rattle.planner.specs.Planner.{Job, job, Answer, outcome_of}
 
 -- a pocket of three equal vertices, all of it stock
 abbrev pub job_of : AdaptiveParams → Job

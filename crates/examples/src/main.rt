@@ -5,15 +5,15 @@
 ghost use Rattle.std.specs.Prelude.{◌≡◌};
 ghost use Rattle.examples.specs.Examples.{answer_to, chunks_of, guard_half};
 
-use entry::params::{AdaptiveParams, Setting, cell_of};
-use planner::outcome::{Answer, adaptive_clear};
+use entry::params::{AdaptiveParams, cell_of};
+use planner::outcome::{Refusal, adaptive_clear};
 use report::report::AdaptiveReport;
 use setup::limits::guard_of;
 use std::io;
 use std::num::wrapping_add_u64;
 
 // A job like any other, but for what an example is about.
-fn params(diameter: f64, engagement: f64, bottom: f64, resolution: Setting) -> AdaptiveParams {
+fn params(diameter: f64, engagement: f64, bottom: f64, resolution: Option<f64>) -> AdaptiveParams {
     AdaptiveParams {
         tool_diameter: diameter,
         max_engagement_deg: engagement,
@@ -26,14 +26,14 @@ fn params(diameter: f64, engagement: f64, bottom: f64, resolution: Setting) -> A
         plunge_feed: 300.0,
         link_feed: 1000.0,
         helix_ramp_deg: 2.0,
-        helix_radius: Setting::Absent,
-        chip_thinning_max: Setting::Absent,
+        helix_radius: None,
+        chip_thinning_max: None,
         resolution,
         keep_tool_down: true,
     }
 }
 
-fn answer(p: AdaptiveParams) -> Answer
+fn answer(p: AdaptiveParams) -> Result<AdaptiveReport, Refusal>
     ensures { result ≡ answer_to p }
 {
     let vs = [0.0f64; 6];
@@ -60,11 +60,17 @@ fn answer(p: AdaptiveParams) -> Answer
     )
 }
 
+// Document 01's number of it.
+fn say_refusal(rt: &impl Print, r: Refusal) -> io::Result<()> {
+    let n: u32 = r.into();
+    println!(rt; "{n}")
+}
+
 // The number of a refusal, or that there is none.
-fn say_answer(rt: &impl Print, a: Answer) -> io::Result<()> {
+fn say_answer(rt: &impl Print, a: Result<AdaptiveReport, Refusal>) -> io::Result<()> {
     match a {
-        Answer::Refused(n) => println!(rt; "{n}"),
-        Answer::Accepted(_) => println!(rt; "accepted"),
+        Err(refusal) => say_refusal(rt, refusal),
+        Ok(_) => println!(rt; "accepted"),
     }
 }
 
@@ -76,10 +82,10 @@ fn chunks(r: AdaptiveReport) -> u64
     wrapping_add_u64(ways, cuts)
 }
 
-fn say_chunks(rt: &impl Print, a: Answer) -> io::Result<()> {
+fn say_chunks(rt: &impl Print, a: Result<AdaptiveReport, Refusal>) -> io::Result<()> {
     match a {
-        Answer::Refused(n) => println!(rt; "{n}"),
-        Answer::Accepted(r) => {
+        Err(refusal) => say_refusal(rt, refusal),
+        Ok(r) => {
             let count = chunks(r);
             println!(rt; "accepted, {count} chunks")
         }
@@ -88,18 +94,18 @@ fn say_chunks(rt: &impl Print, a: Answer) -> io::Result<()> {
 
 fn engagements(rt: &impl Print) -> io::Result<()> {
     print!(rt; "engagement 1: ")?;
-    say_answer(rt, answer(params(6.0, 1.0, -6.0, Setting::Absent)))?;
+    say_answer(rt, answer(params(6.0, 1.0, -6.0, None)))?;
     print!(rt; "engagement 0.999: ")?;
-    say_answer(rt, answer(params(6.0, 0.999, -6.0, Setting::Absent)))?;
+    say_answer(rt, answer(params(6.0, 0.999, -6.0, None)))?;
     print!(rt; "engagement 180: ")?;
-    say_answer(rt, answer(params(6.0, 180.0, -6.0, Setting::Absent)))
+    say_answer(rt, answer(params(6.0, 180.0, -6.0, None)))
 }
 
 fn resolutions(rt: &impl Print) -> io::Result<()> {
     print!(rt; "diameter 6, resolution 0.1: ")?;
-    say_answer(rt, answer(params(6.0, 40.0, -6.0, Setting::Given(0.1))))?;
+    say_answer(rt, answer(params(6.0, 40.0, -6.0, Some(0.1))))?;
     print!(rt; "diameter 6, resolution 0.11: ")?;
-    say_answer(rt, answer(params(6.0, 40.0, -6.0, Setting::Given(0.11))))
+    say_answer(rt, answer(params(6.0, 40.0, -6.0, Some(0.11))))
 }
 
 // Whether the guard is half the limit.
@@ -122,9 +128,9 @@ fn main(rt: HostRuntime) -> io::Result<()> {
     engagements(&rt)?;
     resolutions(&rt)?;
     print!(rt; "diameter 0, bottom above top: ")?;
-    say_answer(&rt, answer(params(0.0, 40.0, 1.0, Setting::Absent)))?;
+    say_answer(&rt, answer(params(0.0, 40.0, 1.0, None)))?;
     print!(rt; "three equal vertices: ")?;
-    say_chunks(&rt, answer(params(6.0, 40.0, -6.0, Setting::Absent)))?;
+    say_chunks(&rt, answer(params(6.0, 40.0, -6.0, None)))?;
     print!(rt; "engagement 1, default cell: ")?;
-    say_guard(&rt, params(6.0, 1.0, -6.0, Setting::Absent))
+    say_guard(&rt, params(6.0, 1.0, -6.0, None))
 }

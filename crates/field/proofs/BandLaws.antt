@@ -14,10 +14,10 @@ use Rattle.loops.specs.Cells.{number}
 use Rattle.loops.proofs.Cases.{by_cases, never}
 use Rattle.dilation.specs.declared.window.Window.{Window}
 use Rattle.distance.specs.Least.{far, at, gap, apart}
+use Rattle.std.specs.Prelude.{Option, Some}
 use Rattle.distance.specs.Limits.{scaled_of, passes_of}
 use Rattle.distance.specs.Nearest.{nearest}
 use Rattle.distance.specs.Rooted.{rooted_of}
-use Rattle.distance.specs.declared.limits.Limit.{Limit}
 use Rattle.distance.specs.declared.limits.Threshold.{Threshold}
 use Rattle.distance.proofs.LimitLaws.{beyond-is}
 use Rattle.distance.proofs.NearLaws.{nearest-far, nearest-over, square_of_lem}
@@ -29,21 +29,20 @@ use Rattle.setup.specs.declared.Setup.{Setup}
 use Rattle.setup.proofs.PartLaws.{part_is}
 use Rattle.field.specs.Bands.{between, Inside, RowsOf, widened, Margin, Unmarked, MarkedRows, MarkedColumns, rows_of, window_of, Around, WantedIn}
 use Rattle.field.specs.Field.{high_of, reach_of, wanted_at}
-use Rattle.field.specs.Gauge.{Gauged}
 use Rattle.field.specs.declared.band.Band.{Band}
 use Rattle.field.specs.declared.gauge.Gauge.{Gauge}
 
 -- ---- margins
 
-module _ (l : Limit) (ny : ℕ) where
-  pub margin_all : (l.told ≡ true → l.below ≤ far) → Margin l ny ny
+module _ (below : Option ℕ) (ny : ℕ) where
+  pub margin_all : ((e : ℕ) → below ≡ Some e → e ≤ far) → Margin below ny ny
   margin_all h = record { few = omega arith; fits = h; beyond = λ k a b. absurd (let z : ⊥ = omega arith in z) }
 
-  pub margin_at : (m : ℕ) → l.told ≡ true → l.below ≤ far → m < ny → l.below ≤ (m + 1) * (m + 1) → Margin l ny m
-  margin_at m t h b e = record {
+  pub margin_at : (m n : ℕ) → below ≡ Some n → n ≤ far → m < ny → n ≤ (m + 1) * (m + 1) → Margin below ny m
+  margin_at m n t h b e = record {
     few = omega arith;
-    fits = λ _. h;
-    beyond = λ k a _. (t, (let c : m + 1 ≤ k = omega arith in omega (arith, mul-le-mul c c)));
+    fits = λ u k. let z : u ≡ n = cc in omega arith;
+    beyond = λ k a _. (n, t, (let c : m + 1 ≤ k = omega arith in omega (arith, mul-le-mul c c)));
   }
 
 pub widened_is : (ny m : ℕ) (band : Band) (lo hi : ℕ) → lo ≡ band.lo - m → hi ≡ min (band.hi + m) ny → between lo hi ≡ widened ny m band
@@ -151,17 +150,17 @@ dirty_part nx ny n a e b w N A M = subst (λ (q : List ℕ). Around q nx ny e w)
 
 -- ---- squares at or above a limit
 
-module _ (g : Gauge) (h : Gauged g) (d : ℕ) (b : d ≤ far) where
-  near-out : g.near.limit.told ≡ true → g.near.limit.below ≤ d → le (rooted_of d) (reach_of g.setup) ≡ false
+module _ (g : Gauge) (d : ℕ) (b : d ≤ far) where
+  near-out : (e : ℕ) → g.near.below ≡ Some e → e ≤ d → le (rooted_of d) (reach_of g.setup) ≡ false
   unfolding passes_of scaled_of
-  near-out t l = sym (ap (λ (q : Threshold). passes_of q.scaled q.scale q.strict q.x d) h.near.is) ∙ h.near.limit.squares t d b ∙ le-ltb d g.near.limit.below l
+  near-out e t l = sym (ap (λ (q : Threshold). passes_of q d) g.gauged.near) ∙ (g.near.told e t).squares d b ∙ le-ltb d e l
 
-  pub far-out : g.far.limit.told ≡ true → g.far.limit.below ≤ d → lt (high_of g.setup) (mul binary64 (rooted_of d) g.setup.grid.cell) ≡ true
+  pub far-out : (e : ℕ) → g.far.below ≡ Some e → e ≤ d → lt (high_of g.setup) (mul binary64 (rooted_of d) g.setup.grid.cell) ≡ true
   unfolding scaled_of
-  far-out t l =
-      sym (ap (λ (q : Threshold). lt q.x (scaled_of q.scaled q.scale d)) h.far.is)
-      ∙ sym (beyond-is _ _ _ _ g.far.limit.told g.far.limit.below d h.far.limit t (ap (λ (q : Threshold). q.strict) h.far.is) b)
-      ∙ le-leb g.far.limit.below d l
+  far-out e t l =
+      sym (ap (λ (q : Threshold). lt q.x (scaled_of q.scale d)) g.gauged.far)
+      ∙ sym (beyond-is g.far.threshold e d (g.far.told e t) (ap (λ (q : Threshold). q.strict) g.gauged.far) b)
+      ∙ le-leb e d l
 
 -- ---- the rows in which a cell may be wanted
 
@@ -186,10 +185,10 @@ wanted-whole s all dirty = record {
 }
 
 -- the window around the cells that were cut
-pub wanted_around : (g : Gauge) → Gauged g → g.all ≡ false → g.near.limit.told ≡ true → (dirty : List ℕ) (w : Window) → Around dirty g.setup.grid.nx g.setup.grid.ny g.near.limit.below w
+pub wanted_around : (g : Gauge) → g.all ≡ false → (e : ℕ) → g.near.below ≡ Some e → (dirty : List ℕ) (w : Window) → Around dirty g.setup.grid.nx g.setup.grid.ny e w
     → WantedIn g.setup g.all dirty w
 unfolding wanted_at
-wanted_around g h A t dirty w R =
+wanted_around g A n t dirty w R =
     let nx = g.setup.grid.nx in
     let ny = g.setup.grid.ny in
     record {
@@ -197,10 +196,10 @@ wanted_around g h A t dirty w R =
       columns = R.columns;
       cut = λ _. R.marked;
       outside = λ allowed i j p q o.
-          let above : g.near.limit.below ≤ nearest 1 dirty nx (at i j) ny = nearest-over dirty nx (at i j) g.near.limit.below R.fits ny (λ x k a b e. R.beyond i j x k p q o a b (eq-eqb _ _ e)) in
+          let above : n ≤ nearest 1 dirty nx (at i j) ny = nearest-over dirty nx (at i j) n R.fits ny (λ x k a b e. R.beyond i j x k p q o a b (eq-eqb _ _ e)) in
           rw (A, square_of_lem dirty nx ny i j p q)
           (and-false (eqb (get_or allowed (number nx i j) 0) 1) (le (rooted_of (nearest 1 dirty nx (at i j) ny)) (reach_of g.setup))
-          (near-out g h (nearest 1 dirty nx (at i j) ny) (nearest-far dirty nx (at i j) ny) t above));
+          (near-out g (nearest 1 dirty nx (at i j) ny) (nearest-far dirty nx (at i j) ny) n t above));
     }
 
 -- the cells that were cut are in its rows
@@ -224,12 +223,12 @@ columns_are g m rows band t R h M = record {
 
 -- ---- around the marks
 
-module _ (m : List ℕ) (nx ny : ℕ) (l : Limit) (t : l.told ≡ true) (rows cols : Band) (R : MarkedRows m nx ny rows) (C : MarkedColumns m nx rows cols) where
+module _ (m : List ℕ) (nx ny n : ℕ) (rows cols : Band) (R : MarkedRows m nx ny rows) (C : MarkedColumns m nx rows cols) where
   marked_in : (i j : ℕ) → i < nx → j < ny → eqb (get_or m (number nx i j) 0) 1 ≡ true → Inside rows j × Inside cols i
   marked_in i j p q e = let r = R.marked i j p q e in (r, C.marked i j p r e)
 
   -- there is none
-  pub around_none : (k : ℕ) → Margin l ny k → ltb rows.lo rows.hi && ltb cols.lo cols.hi ≡ false → Around m nx ny l.below (window_of (between 0 0) (between 0 0))
+  pub around_none : (k : ℕ) → Margin (Some n) ny k → ltb rows.lo rows.hi && ltb cols.lo cols.hi ≡ false → Around m nx ny n (window_of (between 0 0) (between 0 0))
   around_none k F h =
       let no : (i j : ℕ) → i < nx → j < ny → eqb (get_or m (number nx i j) 0) 1 ≡ true → ⊥ =
       λ i j p q e.
@@ -241,37 +240,37 @@ module _ (m : List ℕ) (nx ny : ℕ) (l : Limit) (t : l.told ≡ true) (rows co
         rows = record { order = omega arith; high = omega arith };
         columns = record { order = omega arith; high = omega arith };
         marked = λ i j p q e. absurd (no i j p q e);
-        fits = F.fits t;
+        fits = F.fits n refl;
         beyond = λ i j x y p q o a b e. absurd (no x y a b e);
       }
 
-  pub around_some : (k n : ℕ) → Margin l ny k → Margin l nx n → (r c : Band) → r ≡ widened ny k rows → c ≡ widened nx n cols → Around m nx ny l.below (window_of r c)
-  around_some k n F G r c P Q =
+  pub around_some : (k l : ℕ) → Margin (Some n) ny k → Margin (Some n) nx l → (r c : Band) → r ≡ widened ny k rows → c ≡ widened nx l cols → Around m nx ny n (window_of r c)
+  around_some k l F G r c P Q =
       let ro = R.rows.order in
       let rh = R.rows.high in
       let co = C.columns.order in
       let ch = C.columns.high in
       record {
         rows = wide_rows ny k rows r P ro rh;
-        columns = wide_rows nx n cols c Q co ch;
+        columns = wide_rows nx l cols c Q co ch;
         marked = λ i j p q e.
             let x = marked_in i j p q e in
             let a = wide-inside ny k rows r P ro rh j x.0 in
-            let b = wide-inside nx n cols c Q co ch i x.1 in
+            let b = wide-inside nx l cols c Q co ch i x.1 in
             record { low = a.low; high = a.high; left = b.low; right = b.high };
-        fits = F.fits t;
+        fits = F.fits n refl;
         beyond = λ i j x y p q o a b e.
             let z = marked_in x y a b e in
             by_cases (ltb j r.lo)
             (λ s. row-far i j x y q b a e (λ I. let u = I.low in let v = ltb-true j r.lo s in omega arith))
             (λ s. by_cases (ltb j r.hi)
             (λ w.
-            let v = G.beyond (gap i x) (wide-gap nx n cols c Q co ch i x z.1 (λ I. o (record { low = ltb-false j r.lo s; high = ltb-true j r.hi w; left = I.low; right = I.high })) p) (omega arith) in
-            omega (arith, v.1))
+            let v = G.beyond (gap i x) (wide-gap nx l cols c Q co ch i x z.1 (λ I. o (record { low = ltb-false j r.lo s; high = ltb-true j r.hi w; left = I.low; right = I.high })) p) (omega arith) in
+            (let z : n ≡ v.0 = cc v.1 in omega (arith, z, v.2)))
             (λ w. row-far i j x y q b a e (λ I. let u = I.high in let v = ltb-false j r.hi w in omega arith)));
       }
     where
-      row-far : (i j x y : ℕ) → j < ny → y < ny → (x < nx) → eqb (get_or m (number nx x y) 0) 1 ≡ true → (Inside r j → ⊥) → l.below ≤ apart (at i j) (at x y)
+      row-far : (i j x y : ℕ) → j < ny → y < ny → (x < nx) → eqb (get_or m (number nx x y) 0) 1 ≡ true → (Inside r j → ⊥) → n ≤ apart (at i j) (at x y)
       row-far i j x y q b a e o =
           let v = F.beyond (gap j y) (wide-gap ny k rows r P R.rows.order R.rows.high j y (R.marked x y a b e) o q) (omega arith) in
-          omega (arith, v.1)
+          (let z : n ≡ v.0 = cc v.1 in omega (arith, z, v.2))

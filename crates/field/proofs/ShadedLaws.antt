@@ -18,6 +18,7 @@ use Rattle.loops.proofs.FrameLaws.{back-only, only_wider}
 use Rattle.dilation.specs.Window.{Takes, In, On, Near, Clear, Shade, Told, Shaded}
 use Rattle.dilation.specs.declared.window.Window.{Window}
 use Rattle.distance.specs.Least.{far, at, gap, apart}
+use Rattle.std.specs.Prelude.{Some}
 use Rattle.distance.specs.Limits.{scaled_of, passes_of}
 use Rattle.distance.specs.Nearest.{nearest, squares_of}
 use Rattle.distance.specs.Rooted.{rooted_of}
@@ -31,7 +32,6 @@ use Rattle.setup.proofs.LayoutLaws.{run-put}
 use Rattle.setup.proofs.PartLaws.{part_is, part_long, back_is}
 use Rattle.field.specs.Bands.{Inside, RowsOf, widened, Margin, rows_of, columns_of, window_of, WantedIn}
 use Rattle.field.specs.Field.{high_of, low_of, reach_of, value_of, value_at}
-use Rattle.field.specs.Gauge.{Gauged}
 use Rattle.field.specs.Squares.{Stocked, Neared}
 use Rattle.field.specs.declared.band.Band.{Band}
 use Rattle.field.specs.declared.gauge.Gauge.{Gauge}
@@ -81,38 +81,38 @@ module _ (m : List ℕ) (nx ny : ℕ) (w : Window) (C : w.right ≤ nx) (R : w.h
 
 -- ---- the tests of a round, by squares
 
-module _ (g : Gauge) (h : Gauged g) (d : ℕ) (b : d ≤ far) where
-  far_in : g.far.limit.told ≡ true → d < g.far.limit.below → lt (high_of g.setup) (mul binary64 (rooted_of d) g.setup.grid.cell) ≡ false
+module _ (g : Gauge) (d : ℕ) (b : d ≤ far) where
+  far_in : (e : ℕ) → g.far.below ≡ Some e → d < e → lt (high_of g.setup) (mul binary64 (rooted_of d) g.setup.grid.cell) ≡ false
   unfolding scaled_of
-  far_in t l =
-      sym (ap (λ (q : Threshold). lt q.x (scaled_of q.scaled q.scale d)) h.far.is)
-      ∙ sym (beyond-is _ _ _ _ g.far.limit.told g.far.limit.below d h.far.limit t (ap (λ (q : Threshold). q.strict) h.far.is) b)
-      ∙ lt-leb g.far.limit.below d l
+  far_in e t l =
+      sym (ap (λ (q : Threshold). lt q.x (scaled_of q.scale d)) g.gauged.far)
+      ∙ sym (beyond-is g.far.threshold e d (g.far.told e t) (ap (λ (q : Threshold). q.strict) g.gauged.far) b)
+      ∙ lt-leb e d l
 
-  deep_is : g.deep.limit.told ≡ true → lt (mul binary64 (rooted_of d) g.setup.grid.cell) (low_of g.setup) ≡ ltb d g.deep.limit.below
+  deep_is : (e : ℕ) → g.deep.below ≡ Some e → lt (mul binary64 (rooted_of d) g.setup.grid.cell) (low_of g.setup) ≡ ltb d e
   unfolding passes_of scaled_of
-  deep_is t = sym (ap (λ (q : Threshold). passes_of q.scaled q.scale q.strict q.x d) h.deep.is) ∙ h.deep.limit.squares t d b
+  deep_is e t = sym (ap (λ (q : Threshold). passes_of q d) g.gauged.deep) ∙ (g.deep.told e t).squares d b
 
-  near-is : g.near.limit.told ≡ true → le (rooted_of d) (reach_of g.setup) ≡ ltb d g.near.limit.below
+  near-is : (e : ℕ) → g.near.below ≡ Some e → le (rooted_of d) (reach_of g.setup) ≡ ltb d e
   unfolding passes_of scaled_of
-  near-is t = sym (ap (λ (q : Threshold). passes_of q.scaled q.scale q.strict q.x d) h.near.is) ∙ h.near.limit.squares t d b
+  near-is e t = sym (ap (λ (q : Threshold). passes_of q d) g.gauged.near) ∙ (g.near.told e t).squares d b
 
 -- ---- to stock
 
-module _ (g : Gauge) (h : Gauged g) (FT : g.far.limit.told ≡ true) (DT : g.deep.limit.told ≡ true) (map l k : List ℕ) (i j : ℕ) where
+module _ (g : Gauge) (fe de : ℕ) (FT : g.far.below ≡ Some fe) (DT : g.deep.below ≡ Some de) (map l k : List ℕ) (i j : ℕ) where
   abbrev p : ℕ
   p = get_or l (number g.setup.grid.nx i j) 0
 
   abbrev q : ℕ
   q = get_or k (number g.setup.grid.nx i j) 0
 
-  value_out : p ≤ far → q ≤ far → g.far.limit.below ≤ p → g.far.limit.below ≤ q → value_at g.setup map l i j ≡ value_at g.setup map k i j
+  value_out : p ≤ far → q ≤ far → fe ≤ p → fe ≤ q → value_at g.setup map l i j ≡ value_at g.setup map k i j
   unfolding value_at value_of
-  value_out a b c d = rw (far-out g h p a FT c, far-out g h q b FT d) refl
+  value_out a b c d = rw (far-out g p a fe FT c, far-out g q b fe FT d) refl
 
-  value_in : p ≤ far → q ≤ far → p < g.far.limit.below → q < g.far.limit.below → ltb p g.deep.limit.below ≡ ltb q g.deep.limit.below → value_at g.setup map l i j ≡ value_at g.setup map k i j
+  value_in : p ≤ far → q ≤ far → p < fe → q < fe → ltb p de ≡ ltb q de → value_at g.setup map l i j ≡ value_at g.setup map k i j
   unfolding value_at value_of
-  value_in a b c d e = rw (far_in g h p a FT c, far_in g h q b FT d, deep_is g h p a DT, deep_is g h q b DT, e) refl
+  value_in a b c d e = rw (far_in g p a fe FT c, far_in g q b fe FT d, deep_is g p a de DT, deep_is g q b de DT, e) refl
 
 -- the whole of a part that is lent from its first place on
 module _ (k n a e : ℕ) (u t : List ℕ) (A : a ≡ k * n) (E : e ≡ a + n) (L : k * n + n ≤ length u) (T : length t ≡ n) where
@@ -127,9 +127,9 @@ module _ (k n a e : ℕ) (u t : List ℕ) (A : a ≡ k * n) (E : e ≡ a + n) (L
 told-all : (w : Window) (j : ℕ) → Told 1 0 w j
 told-all w j = rw (eq-eqb (j % 1) 0 (let z : j % 1 ≡ 0 = omega arith in z)) refl
 
-module _ (g : Gauge) (h : Gauged g) (w : Window) (R : RowsOf g.setup.grid.ny (rows_of w)) (C : RowsOf g.setup.grid.nx (columns_of w)) (b u : List ℕ) (U : 5 * cells_of g.setup ≤ length u)
-    (far-takes : Takes g.far.limit) (deep-takes : Takes g.deep.limit)
-    (m k : ℕ) (M : Margin g.far.limit g.setup.grid.ny m) (K : Margin g.far.limit g.setup.grid.nx k)
+module _ (g : Gauge) (w : Window) (R : RowsOf g.setup.grid.ny (rows_of w)) (C : RowsOf g.setup.grid.nx (columns_of w)) (b u : List ℕ) (U : 5 * cells_of g.setup ≤ length u)
+    (fe de : ℕ) (far-takes : Takes g.far fe) (deep-takes : Takes g.deep de)
+    (m k : ℕ) (M : Margin g.far.below g.setup.grid.ny m) (K : Margin g.far.below g.setup.grid.nx k)
     (rows cols : Band) (P : rows ≡ widened g.setup.grid.ny m (rows_of w)) (Q : cols ≡ widened g.setup.grid.nx k (columns_of w)) where
   abbrev nx : ℕ
   nx = g.setup.grid.nx
@@ -153,7 +153,7 @@ module _ (g : Gauge) (h : Gauged g) (w : Window) (R : RowsOf g.setup.grid.ny (ro
       record { low = a.low; high = a.high; left = c.low; right = c.high }
 
   -- a mark outside the wide window is beyond the far bound
-  outside : (i j : ℕ) → In w i j → (x y : ℕ) → x < nx → y < ny → (In (window_of rows cols) x y → ⊥) → g.far.limit.below ≤ apart (at i j) (at x y)
+  outside : (i j : ℕ) → In w i j → (x y : ℕ) → x < nx → y < ny → (In (window_of rows cols) x y → ⊥) → fe ≤ apart (at i j) (at x y)
   outside i j I x y X Y o =
       let jn : j < ny = omega (arith, I.high, R.high) in
       let in' : i < nx = omega (arith, I.right, C.high) in
@@ -164,17 +164,17 @@ module _ (g : Gauge) (h : Gauged g) (w : Window) (R : RowsOf g.setup.grid.ny (ro
       let v = K.beyond (gap x i) (wide-gap nx k (columns_of w) cols Q C.order C.high x i (record { low = I.left; high = I.right })
       (λ J. o (record { low = ltb-false y rows.lo s; high = ltb-true y rows.hi r; left = J.low; right = J.high })) X) (omega arith) in
       let e : gap i x ≡ gap x i = omega arith in
-      subst (λ (z : ℕ). g.far.limit.below ≤ z * z + gap j y * gap j y) (sym e) (omega (arith, v.1)))
+      subst (λ (z : ℕ). fe ≤ z * z + gap j y * gap j y) (sym e) (let z : fe ≡ v.0 = cc (far-takes.told, v.1) in omega (arith, z, v.2)))
       (λ r. row_out jn (λ J. let a = J.high in let z = ltb-false y rows.hi r in omega arith)))
     where
-      row_out : j < ny → (Inside rows y → ⊥) → g.far.limit.below ≤ apart (at i j) (at x y)
+      row_out : j < ny → (Inside rows y → ⊥) → fe ≤ apart (at i j) (at x y)
       row_out jn n =
           let v = M.beyond (gap y j) (wide-gap ny m (rows_of w) rows P R.order R.high y j (record { low = I.low; high = I.high }) n Y) (omega arith) in
           let e : gap j y ≡ gap y j = omega arith in
-          subst (λ (z : ℕ). g.far.limit.below ≤ gap i x * gap i x + z * z) (sym e) (omega (arith, v.1))
+          subst (λ (z : ℕ). fe ≤ gap i x * gap i x + z * z) (sym e) (let z : fe ≡ v.0 = cc (far-takes.told, v.1) in omega (arith, z, v.2))
 
   module _ (n : ℕ) (N : n ≡ cells_of g.setup) (t : List ℕ)
-      (T : Shaded (take (n - 0) (drop 0 b)) nx (window_of rows cols) 1 0 g.deep.limit.below g.far.limit.below (take (n - 0) (drop 0 u)) t) where
+      (T : Shaded (take (n - 0) (drop 0 b)) nx (window_of rows cols) 1 0 de fe (take (n - 0) (drop 0 u)) t) where
     long : length t ≡ n
     long = T.long ∙ part_long 0 n 0 n u (omega arith) (omega arith) (omega arith)
 
@@ -194,28 +194,28 @@ module _ (g : Gauge) (h : Gauged g) (w : Window) (R : RowsOf g.setup.grid.ny (ro
           let J2 : j < ny = omega (arith, I.high, R.high) in
           let o = get_or t (number nx i j) 0 in
           let sq = nearest 1 map nx (at i j) ny in
-          let S : Shade map nx (window_of rows cols) g.deep.limit.below g.far.limit.below i j o =
-          subst (λ (z : List ℕ). Shade z nx (window_of rows cols) g.deep.limit.below g.far.limit.below i j o) marks_are (T.cell i j (wide_in i j I) (told-all (window_of rows cols) j)) in
-          let out : (x y : ℕ) → x < nx → y < ny → (In (window_of rows cols) x y → ⊥) → eqb (get_or map (number nx x y) 0) 1 ≡ true → g.far.limit.below ≤ apart (at i j) (at x y) = λ x y X Y n e. outside i j I x y X Y n in
-          let bound : g.far.limit.below ≤ far = omega arith in
+          let S : Shade map nx (window_of rows cols) de fe i j o =
+          subst (λ (z : List ℕ). Shade z nx (window_of rows cols) de fe i j o) marks_are (T.cell i j (wide_in i j I) (told-all (window_of rows cols) j)) in
+          let out : (x y : ℕ) → x < nx → y < ny → (In (window_of rows cols) x y → ⊥) → eqb (get_or map (number nx x y) 0) 1 ≡ true → fe ≤ apart (at i j) (at x y) = λ x y X Y n e. outside i j I x y X Y n in
+          let bound : fe ≤ far = omega arith in
           let sqf : sq ≤ far = nearest-far map nx (at i j) ny in
           let whole = square_of_lem map nx ny i j I2 J2 in
           ap (λ (z : List ℕ). value_at g.setup map z i j) words_are
-          ∙ by_cases (ltb o g.far.limit.below)
+          ∙ by_cases (ltb o fe)
           (λ y.
-          let z = ltb-true o g.far.limit.below y in
-          value_in g h far-takes.told deep-takes.told map t (squares_of 1 map nx ny) i j S.fits (rw whole sqf) z (rw whole (in_both map nx ny (window_of rows cols) cols_on.high rows_on.high i j _ _ o bound S out z))
+          let z = ltb-true o fe y in
+          value_in g fe de far-takes.told deep-takes.told map t (squares_of 1 map nx ny) i j S.fits (rw whole sqf) z (rw whole (in_both map nx ny (window_of rows cols) cols_on.high rows_on.high i j _ _ o bound S out z))
           (rw whole (deep_both map nx ny (window_of rows cols) cols_on.high rows_on.high i j _ _ o bound S out z)))
           (λ y.
-          let z = ltb-false o g.far.limit.below y in
-          value_out g h far-takes.told deep-takes.told map t (squares_of 1 map nx ny) i j S.fits (rw whole sqf) z (rw whole (out_both map nx ny (window_of rows cols) cols_on.high rows_on.high i j _ _ o bound S out z)));
+          let z = ltb-false o fe y in
+          value_out g fe de far-takes.told deep-takes.told map t (squares_of 1 map nx ny) i j S.fits (rw whole sqf) z (rw whole (out_both map nx ny (window_of rows cols) cols_on.high rows_on.high i j _ _ o bound S out z)));
     }
 
 -- ---- to cells that were cut
 
-module _ (g : Gauge) (h : Gauged g) (w : Window) (b u : List ℕ) (W : WantedIn g.setup false (run 4 (cells_of g.setup) b) w) (U : 5 * cells_of g.setup ≤ length u)
-    (near-takes : Takes g.near.limit) (n a c : ℕ) (N : n ≡ cells_of g.setup) (A : a ≡ 4 * n) (C : c ≡ 1 * n) (t : List ℕ)
-    (T : Shaded (take (a + n - a) (drop a b)) g.setup.grid.nx w 1 0 0 g.near.limit.below (take (c + n - c) (drop c u)) t) where
+module _ (g : Gauge) (w : Window) (b u : List ℕ) (W : WantedIn g.setup false (run 4 (cells_of g.setup) b) w) (U : 5 * cells_of g.setup ≤ length u)
+    (e : ℕ) (near-takes : Takes g.near e) (n a c : ℕ) (N : n ≡ cells_of g.setup) (A : a ≡ 4 * n) (C : c ≡ 1 * n) (t : List ℕ)
+    (T : Shaded (take (a + n - a) (drop a b)) g.setup.grid.nx w 1 0 0 e (take (c + n - c) (drop c u)) t) where
   near-long : length t ≡ n
   near-long = T.long ∙ part_long 1 n c (c + n) u C refl (omega arith)
 
@@ -235,7 +235,6 @@ module _ (g : Gauge) (h : Gauged g) (w : Window) (b u : List ℕ) (W : WantedIn 
         let I2 : i < nx = omega (arith, I.right, W.columns.high) in
         let J2 : j < ny = omega (arith, I.high, W.rows.high) in
         let o = get_or t (number nx i j) 0 in
-        let e = g.near.limit.below in
         let sq = nearest 1 dirty nx (at i j) ny in
         let S : Shade dirty nx w 0 e i j o = subst (λ (z : List ℕ). Shade z nx w 0 e i j o) dirty_are (T.cell i j I (told-all w j)) in
         let out : (x k : ℕ) → x < nx → k < ny → (In w x k → ⊥) → eqb (get_or dirty (number nx x k) 0) 1 ≡ true → e ≤ apart (at i j) (at x k) = λ x k X Y n m. absurd (n (W.cut refl x k X Y m)) in
@@ -246,8 +245,8 @@ module _ (g : Gauge) (h : Gauged g) (w : Window) (b u : List ℕ) (W : WantedIn 
         (λ y. y ∙ sym (lt-ltb sq e (in_both dirty nx ny w W.columns.high W.rows.high i j 0 e o bound S out (ltb-true o e y))))
         (λ y. y ∙ sym (le-ltb sq e (out_both dirty nx ny w W.columns.high W.rows.high i j 0 e o bound S out (ltb-false o e y)))) in
         ap (λ (z : List ℕ). le (rooted_of (get_or z (number nx i j) 0)) (reach_of g.setup)) near-words_are
-        ∙ near-is g h o S.fits near-takes.told
+        ∙ near-is g o S.fits e near-takes.told
         ∙ same
-        ∙ sym (near-is g h sq (nearest-far dirty nx (at i j) ny) near-takes.told)
+        ∙ sym (near-is g sq (nearest-far dirty nx (at i j) ny) e near-takes.told)
         ∙ ap (λ (z : ℕ). le (rooted_of z) (reach_of g.setup)) (sym whole);
   }

@@ -11,10 +11,10 @@ use lib.Seq.{get_or-take, get_or-drop, get_or-append-add, length-take-le}
 use lib.Ieee.{binary64, mul, lt, le}
 use borrow.Author.Tests.{eqb-true, eq-eqb}
 use borrow.Rule.Slice.PartMut.{put_mid}
+use Rattle.std.specs.Prelude.{Option, Some, None}
 use Rattle.loops.specs.Cells.{number}
 use Rattle.loops.specs.Regions.{Fits, within, put}
 use Rattle.loops.specs.Frame.{Only}
-use Rattle.loops.proofs.Cases.{by_cases, never}
 use Rattle.loops.proofs.RegionLaws.{region-long, put_is}
 use Rattle.loops.proofs.FrameLaws.{put_only, only_same, only_more, only-before, only_wider}
 use Rattle.dilation.specs.Window.{In}
@@ -32,7 +32,6 @@ use Rattle.setup.specs.Place.{cells_of}
 use Rattle.setup.specs.declared.Setup.{Setup}
 use Rattle.field.specs.Bands.{Inside, RowsOf, widened, Margin, MarkedRows, rows_of, columns_of}
 use Rattle.field.specs.Field.{high_of, reach_of, value_of, value_at, wanted_at}
-use Rattle.field.specs.Gauge.{Gauged}
 use Rattle.field.specs.Squares.{squares_put, StockedRows, NearedRows, Stocked, Neared, Measured}
 use Rattle.field.specs.declared.band.Band.{Band}
 use Rattle.field.specs.declared.gauge.Gauge.{Gauge}
@@ -172,8 +171,12 @@ value_alike : (s : Setup) (map l k : List ℕ) (i j : ℕ) → Alike s (get_or l
 unfolding value_at value_of
 value_alike s map l k i j e = ⊎_elim (λ z. ap (λ (d : ℕ). value_of s map (mul binary64 (rooted_of d) s.grid.cell) i j) z) (λ z. rw (z.0, z.1) refl) e
 
-module _ (g : Gauge) (h : Gauged g) (S : Sides g.setup.grid) (band : Band) (b u : List ℕ) (O : band.lo < band.hi) (H : band.hi ≤ g.setup.grid.ny) (l : 5 * cells_of g.setup ≤ length u)
-    (m : ℕ) (M : Margin g.far.limit g.setup.grid.ny m) (wide : Band) (W : wide ≡ widened g.setup.grid.ny m band) where
+by_option : {C : Type 0} (o : Option ℕ) → ((e : ℕ) → o ≡ Some e → C) → (o ≡ None → C) → C
+by_option (Some e) f g = f e refl
+by_option None f g = g refl
+
+module _ (g : Gauge) (S : Sides g.setup.grid) (band : Band) (b u : List ℕ) (O : band.lo < band.hi) (H : band.hi ≤ g.setup.grid.ny) (l : 5 * cells_of g.setup ≤ length u)
+    (m : ℕ) (M : Margin g.far.below g.setup.grid.ny m) (wide : Band) (W : wide ≡ widened g.setup.grid.ny m band) where
   some : wide.lo < wide.hi
   some = wide-some g.setup.grid.ny m band wide W (omega arith) H O
 
@@ -201,13 +204,13 @@ module _ (g : Gauge) (h : Gauged g) (S : Sides g.setup.grid) (band : Band) (b u 
       let here : get_or (run 0 n stock_words) (number nx i j) 0 ≤ far =
       subst (λ (q : ℕ). q ≤ far) (sym (squares-at nx ny wide (0 * n) (0 * n) b u some high stock-fits i j p J)) (nearest-far _ nx (at i (j - wide.lo)) (wide.hi - wide.lo)) in
       let there : get_or (squares_of 1 (run 0 n b) nx ny) (number nx i j) 0 ≤ far = whole-far nx ny (run 0 n b) i j p (omega arith) in
-      by_cases g.far.limit.told
-      (λ t. ⊎_elim inl (λ z. inr (far-out g h _ here t z.0, far-out g h _ there t z.1))
-      (squares_are nx ny wide (0 * n) (0 * n) b u some high stock-fits i j g.far.limit.below p J (M.fits t)
-      (λ x k X K o e. (M.beyond (gap j k) (gap-over j k I o K) (omega arith)).1)))
+      by_option g.far.below
+      (λ e t. ⊎_elim inl (λ z. inr (far-out g _ here e t z.0, far-out g _ there e t z.1))
+      (squares_are nx ny wide (0 * n) (0 * n) b u some high stock-fits i j e p J (M.fits e t)
+      (λ x k X K o _. let v = M.beyond (gap j k) (gap-over j k I o K) (omega arith) in let z : e ≡ v.0 = cc (t, v.1) in omega (arith, z, v.2))))
       (λ t. inl (same-far _ _ here there
       (squares_are nx ny wide (0 * n) (0 * n) b u some high stock-fits i j far p J (omega arith)
-      (λ x k X K o e. never (sym t ∙ (M.beyond (gap j k) (gap-over j k I o K) (omega arith)).0)))))
+      (λ x k X K o e. let v = M.beyond (gap j k) (gap-over j k I o K) (omega arith) in cc (t, v.1)))))
 
   stock-put : StockedRows g.setup band b u stock_words
   stock-put =

@@ -1,10 +1,9 @@
 -- Bands of rows and of columns: a round of the field goes by the window near to the cells that were cut, and by the stock near to it. Definitions only.
-use Rattle.std.specs.Prelude.{◌≡◌, Bool, true, false, List, ℕ, ◌+◌, ◌-◌, ◌*◌, ◌≤◌, ◌<◌, min, max, get_or, eqb}
+use Rattle.std.specs.Prelude.{◌≡◌, Bool, true, false, Option, Some, List, ℕ, ◌+◌, ◌-◌, ◌*◌, ◌≤◌, ◌<◌, min, max, get_or, eqb}
 use Rattle.loops.specs.Loop.{loop}
 use Rattle.loops.specs.Cells.{number}
 use Rattle.distance.specs.Least.{far, at, apart}
 use Rattle.distance.specs.Nearest.{squares_of}
-use Rattle.distance.specs.declared.limits.Limit.{Limit}
 use Rattle.setup.specs.declared.Setup.{Setup}
 use Rattle.dilation.specs.Window.{In}
 use Rattle.dilation.specs.declared.window.Window.{Window}
@@ -29,11 +28,11 @@ pub record RowsOf (ny : ℕ) (band : Band) : Type 0 where
 unfoldable pub widened : ℕ → ℕ → Band → Band
 widened ny m band = between (band.lo - m) (min (band.hi + m) ny)
 
--- the square of more than m rows, of a map of ny rows, is at or above a limit that is told
-pub record Margin (l : Limit) (ny m : ℕ) : Type 0 where
+-- the square of more than m rows, of a map of ny rows, is at or above the first square that fails, if there is one
+pub record Margin (below : Option ℕ) (ny m : ℕ) : Type 0 where
   pub few : m ≤ ny
-  pub fits : l.told ≡ true → l.below ≤ far
-  pub beyond : (k : ℕ) → m < k → k < ny → (l.told ≡ true) × (l.below ≤ k * k)
+  pub fits : (e : ℕ) → below ≡ Some e → e ≤ far
+  pub beyond : (k : ℕ) → m < k → k < ny → (e : ℕ) × (below ≡ Some e) × (e ≤ k * k)
 
 -- ---- the rows that have a mark
 

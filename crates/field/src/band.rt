@@ -1,11 +1,9 @@
 // Bands of rows and of columns: a round of the field goes by those near to a cell that was cut.
-ghost use Rattle.std.specs.Prelude.{◌≡◌, true, ◌*◌, ◌≤◌, ◌<◌, length};
+ghost use Rattle.std.specs.Prelude.{◌≡◌, Some, ◌*◌, ◌≤◌, ◌<◌, length};
 ghost use Rattle.raster.specs.Grid.{Sides};
 ghost use Rattle.field.specs.Bands.{widened, Margin, Unmarked, MarkedRows, MarkedColumns, RowsOf, Around};
 
 use dilation::window::Window;
-use distance::limits::Limit;
-use numbers::counts::least;
 use raster::grid::Grid;
 use rims::tiles::gather_rows;
 
@@ -16,14 +14,14 @@ pub struct Band {
     pub hi: usize,
 }
 
-// How many rows apart cells of a map of ny rows can be that are within a limit: all of them, where none
+// How many rows apart cells of a map of ny rows can be whose squares are below a limit: all of them, where none
 // is told. So it is of columns.
-pub fn margin(l: Limit, ny: usize) -> usize
+pub fn margin(below: Option<u32>, ny: usize) -> usize
     requires { ny ≤ 4096 }
-    ensures { Margin l ny result }
+    ensures { Margin below ny result }
 {
-    if l.told {
-        let below = l.below as usize;
+    if let Some(below) = below {
+        let below = below as usize;
         for m in 0..ny {
             let next = m + 1;
             if below <= next * next {
@@ -39,10 +37,10 @@ pub fn widen(band: Band, m: usize, ny: usize) -> Band
     requires { (band.hi ≤ 4096) × (m ≤ 4096) }
     ensures { result ≡ widened ny m band }
 {
-    let less = least(band.lo, m);
+    let less = band.lo.min(m);
     Band {
         lo: band.lo - less,
-        hi: least(band.hi + m, ny),
+        hi: (band.hi + m).min(ny),
     }
 }
 
@@ -50,25 +48,20 @@ pub fn widen(band: Band, m: usize, ny: usize) -> Band
 fn first_of(marks: &[u8]) -> usize
     ensures { (result ≤ length marks.now) × Unmarked marks.now 0 result }
 {
-    for k in 0..marks.len() {
-        if marks[k] == 1 {
-            return k;
-        }
-    }
-    marks.len()
+    marks
+        .iter()
+        .position(|mark| *mark == 1)
+        .unwrap_or(marks.len())
 }
 
 // Behind the last mark, or 0.
 fn end_of(marks: &[u8]) -> usize
     ensures { (result ≤ length marks.now) × Unmarked marks.now result (length marks.now) }
 {
-    let mut end = marks.len();
-    while 0 < end {
-        let k = end - 1;
+    for k in (0..marks.len()).rev() {
         if marks[k] == 1 {
-            return end;
+            return k + 1;
         }
-        end = k;
     }
     0
 }
@@ -104,17 +97,16 @@ fn marked_columns(g: Grid, rows: Band, marks: &[u8]) -> Band
     marked_rows(1, nx, &cols[0..nx])
 }
 
-// The window outside of which no cell is within the limit of a mark.
-pub fn around(g: Grid, l: Limit, marks: &[u8]) -> Window
+// The window outside of which no cell's square of the distance to a mark is below the limit.
+pub fn around(g: Grid, below: u32, marks: &[u8]) -> Window
     requires sides { Sides g }
     requires marks_len { length marks.now ≡ g.ny * g.nx }
-    requires told_value { l.told ≡ true }
-    ensures { Around marks.now g.nx g.ny l.below result }
+    ensures { Around marks.now g.nx g.ny below result }
 {
     let rows = marked_rows(g.nx, g.ny, marks);
     let cols = marked_columns(g, rows, marks);
-    let m = margin(l, g.ny);
-    let n = margin(l, g.nx);
+    let m = margin(Some(below), g.ny);
+    let n = margin(Some(below), g.nx);
     if (rows.lo < rows.hi) & (cols.lo < cols.hi) {
         let r = widen(rows, m, g.ny);
         let c = widen(cols, n, g.nx);

@@ -5,20 +5,13 @@ ghost use Rattle.raster.specs.Grid.{Over, center_of};
 ghost use Rattle.setup.specs.Place.{contact_at};
 ghost use Rattle.setup.specs.Tables.{Tables};
 ghost use Rattle.field.specs.Field.{low_of, value_at, wanted_at};
-ghost use Rattle.field.specs.Gauge.{TestOf, Gauged, KnownAt};
+ghost use Rattle.field.specs.Gauge.{Gauged, KnownAt};
 
-use distance::limits::{Limit, Threshold, beyond, is_within, limit_of};
+use distance::limits::{Limit, Threshold};
 use numbers::circle::TAU;
 use raster::contact::{Contact, samples_of};
 use rims::hits::centre_hits;
 use setup::Setup;
-
-// A bound of distances, and the limit of their squares.
-#[derive(Clone, Copy)]
-pub struct Test {
-    pub bound: Threshold,
-    pub limit: Limit,
-}
 
 // What a round fixes: `far` tells cells that no stock is near to, `deep` those deep in stock, `near` those
 // that a cut since the last round changed, unless all are worked out anew; `full` is a full turn.
@@ -26,17 +19,11 @@ pub struct Test {
 pub struct Gauge {
     pub setup: Setup,
     pub all: bool,
-    pub far: Test,
-    pub deep: Test,
-    pub near: Test,
+    pub far: Limit,
+    pub deep: Limit,
+    pub near: Limit,
     pub full: f32,
-}
-
-// The hits of the rim around a cell's centre, where they are told already.
-#[derive(Clone, Copy)]
-pub struct Known {
-    pub told: bool,
-    pub hits: usize,
+    ghost gauged: { Gauged setup far deep near full },
 }
 
 // The field at a cell, and whether it was sampled.
@@ -44,13 +31,6 @@ pub struct Known {
 pub struct Value {
     pub v: f32,
     pub sampled: bool,
-}
-
-fn test_of(b: Threshold) -> Test
-    ensures { TestOf b result }
-{
-    let limit = limit_of(b);
-    Test { bound: b, limit }
 }
 
 fn low_of(s: Setup) -> f64
@@ -62,24 +42,21 @@ fn low_of(s: Setup) -> f64
 }
 
 pub fn gauge_of(s: Setup, all: bool) -> Gauge
-    ensures { (result.setup ≡ s) × (result.all ≡ all) × Gauged result }
+    ensures { (result.setup ≡ s) × (result.all ≡ all) }
 {
     let c = s.grid.cell;
-    let far = test_of(Threshold {
-        scaled: true,
-        scale: c,
+    let far = Limit::of(Threshold {
+        scale: Some(c),
         strict: false,
         x: s.r + 1.5 * c,
     });
-    let deep = test_of(Threshold {
-        scaled: true,
-        scale: c,
+    let deep = Limit::of(Threshold {
+        scale: Some(c),
         strict: true,
         x: low_of(s),
     });
-    let near = test_of(Threshold {
-        scaled: false,
-        scale: c,
+    let near = Limit::of(Threshold {
+        scale: None,
         strict: false,
         x: (s.r + 2.0 * c) / c,
     });
@@ -95,7 +72,6 @@ pub fn gauge_of(s: Setup, all: bool) -> Gauge
 
 // Whether cell k is to be worked out.
 pub fn wanted(g: Gauge, allowed: &[u8], near: &[u32], k: usize) -> bool
-    requires gauged { Gauged g }
     requires k_in_bounds { (k < length allowed.now) × (k < length near.now) }
     ensures { result ≡ wanted_at g.setup g.all allowed.now near.now k }
 {
@@ -103,44 +79,42 @@ pub fn wanted(g: Gauge, allowed: &[u8], near: &[u32], k: usize) -> bool
         if g.all {
             return true;
         }
-        let t = g.near;
-        return is_within(t.bound, t.limit, near[k]);
+        return g.near.is_within(near[k]);
     }
     false
 }
 
 // Whether cell k is likely to be sampled: which cells are counted together hangs on it, and no result.
 pub fn is_sampled(g: Gauge, allowed: &[u8], stock: &[u32], near: &[u32], k: usize) -> bool
-    requires gauged { Gauged g }
     requires k_in_bounds { (k < length allowed.now) × (k < length near.now) × (k < length stock.now) }
 {
     if wanted(g, allowed, near, k) {
-        let far = g.far;
-        let deep = g.deep;
         let square = stock[k];
-        return !beyond(far.bound, far.limit, square) & !is_within(deep.bound, deep.limit, square);
+        return !g.far.beyond(square) & !g.deep.is_within(square);
     }
     false
 }
 
-// Contact of the tool at the centre of cell (i, j).
-fn contact_at(s: Setup, map: &[u8], rim: &[f64], known: Known, i: usize, j: usize) -> Contact
+// Contact of the tool at the centre of cell (i, j). The hits of the rim around it are told already, or counted.
+fn contact_at(
+    s: Setup,
+    map: &[u8],
+    rim: &[f64],
+    known: Option<usize>,
+    i: usize,
+    j: usize,
+) -> Contact
     requires over { Over s.grid (length map.now) }
     requires tables { Tables s rim.now }
     requires known_at { KnownAt s map.now i j known }
     ensures { result ≡ contact_at s map.now (center_of s.grid i j) s.r }
 {
-    let n = samples_of(s.samples);
-    if known.told {
-        return Contact {
-            hits: known.hits,
-            samples: n,
-        };
+    let samples = samples_of(s.samples);
+    if let Some(hits) = known {
+        return Contact { hits, samples };
     }
-    Contact {
-        hits: centre_hits(s.grid, map, s.r, rim, n, i, j),
-        samples: n,
-    }
+    let hits = centre_hits(s.grid, map, s.r, rim, samples, i, j);
+    Contact { hits, samples }
 }
 
 pub fn value_at(
@@ -148,11 +122,10 @@ pub fn value_at(
     map: &[u8],
     stock: &[u32],
     rim: &[f64],
-    known: Known,
+    known: Option<usize>,
     i: usize,
     j: usize,
 ) -> Value
-    requires gauged { Gauged g }
     requires over { Over g.setup.grid (length map.now) }
     requires nx_in_bounds { g.setup.grid.ny * g.setup.grid.nx ≤ length stock.now }
     requires tables { Tables g.setup rim.now }
@@ -164,15 +137,13 @@ pub fn value_at(
     let grid = s.grid;
     let nx = grid.nx;
     let square = stock[j * nx + i];
-    let far = g.far;
-    if beyond(far.bound, far.limit, square) {
+    if g.far.beyond(square) {
         return Value {
             v: 0.0,
             sampled: false,
         };
     }
-    let deep = g.deep;
-    if is_within(deep.bound, deep.limit, square) {
+    if g.deep.is_within(square) {
         return Value {
             v: g.full,
             sampled: false,

@@ -5,7 +5,6 @@ ghost use Rattle.distance.specs.Nearest.{listed};
 ghost use Rattle.raster.specs.Grid.{Sides};
 ghost use Rattle.setup.specs.Layout.{dirty_put, field_put};
 ghost use Rattle.field.specs.Field.{ring_at};
-ghost use Rattle.field.specs.Gauge.{Gauged};
 ghost use Rattle.field.specs.Round.{Ready, Rowed, Done};
 
 use super::gauge::{Gauge, gauge_of};
@@ -13,7 +12,6 @@ use super::rows::field_rows;
 use super::squares::{measure, wanted_window};
 use dilation::window::Window;
 use raster::grid::Grid;
-use setup::fill::{fill_bytes, fill_singles};
 use setup::{Setup, layout};
 
 // What the rows start from.
@@ -25,7 +23,7 @@ fn begin(g: Grid, all: bool, f: &mut [f32])
     if all {
         let n = layout::cells(g);
         // nothing is known of any cell
-        fill_singles(&mut f[0..n], 0.0 / 0.0);
+        f[0..n].fill(0.0 / 0.0);
     }
 }
 
@@ -37,12 +35,11 @@ fn clear_dirty(g: Grid, b: &mut [u8])
     let n = layout::cells(g);
     let a = layout::dirty(n);
     let e = a + n;
-    fill_bytes(&mut b[a..e], 0);
+    b[a..e].fill(0);
 }
 
 // The cells of a window, over the workspace's regions.
 fn rows(g: Gauge, x: Window, b: &[u8], u: &[u32], w: &[f64], f: &mut [f32]) -> usize
-    requires gauged { Gauged g }
     requires ready { Ready g.setup b.now u.now w.now f.old }
     requires left_le_nx { x.left ≤ g.setup.grid.nx }
     ensures { Rowed g.setup g.all x b.now u.now f.old result f.new }
@@ -86,7 +83,7 @@ pub fn ring(allowed: &[u8], f: &mut [f32])
     requires { length f.old ≤ length allowed.now }
     ensures { f.new ≡ listed (length f.old) (ring_at allowed.now) }
 {
-    for k in 0..f.len() {
-        f[k] = if allowed[k] == 1 { 0.0 } else { 1.0 };
+    for (k, cell) in f.iter_mut().enumerate() {
+        *cell = if allowed[k] == 1 { 0.0 } else { 1.0 };
     }
 }

@@ -1,16 +1,15 @@
 // The engagement field of a round: at each allowed cell the angle of the tool's whole rim over stock.
-ghost use Rattle.std.specs.Prelude.{◌≡◌, true, ◌+◌, ◌*◌, ◌≤◌, ◌<◌, length, get_or, replicate};
+ghost use Rattle.std.specs.Prelude.{◌≡◌, true, IfSome, ◌+◌, ◌*◌, ◌≤◌, ◌<◌, length, get_or, replicate};
 ghost use Rattle.loops.specs.Cells.{number};
 ghost use Rattle.loops.specs.Loop.{loop};
 ghost use Rattle.raster.specs.Contact.{samples_of};
 ghost use Rattle.rims.specs.Sums.{HitsAlong};
 ghost use Rattle.field.specs.Bands.{window_row, window_rows};
 ghost use Rattle.field.specs.Field.{sensed, field_cell};
-ghost use Rattle.field.specs.Gauge.{Gauged, KnownAt, Sensing};
+ghost use Rattle.field.specs.Gauge.{KnownAt, Sensing};
 
-use super::gauge::{Gauge, Known, is_sampled, value_at, wanted};
+use super::gauge::{Gauge, is_sampled, value_at, wanted};
 use dilation::window::Window;
-use numbers::counts::{greatest, least};
 use raster::contact::samples_of;
 use rims::sums::{hits_along, start_of};
 
@@ -22,13 +21,12 @@ fn field_cell(
     stock: &[u32],
     near: &[u32],
     rim: &[f64],
-    known: Known,
+    known: Option<usize>,
     f: &mut [f32],
     j: usize,
     i: usize,
     sampled: usize,
 ) -> usize
-    requires gauged { Gauged g }
     requires sensing { Sensing g.setup map.now allowed.now stock.now near.now rim.now (length f.old) }
     requires known_at { KnownAt g.setup map.now i j known }
     requires i_lt_nx { (i < g.setup.grid.nx) × (j < g.setup.grid.ny) × (sampled ≤ number g.setup.grid.nx i j) }
@@ -48,16 +46,13 @@ fn field_cell(
 
 // Whether one of the cells of a run, looked at here and there, is likely to be sampled: then it is worth counting all.
 fn is_dense(g: Gauge, allowed: &[u8], stock: &[u32], near: &[u32], first: usize, end: usize) -> bool
-    requires gauged { Gauged g }
     requires end_in_bounds { (end ≤ length allowed.now) × (end ≤ length near.now) × (end ≤ length stock.now) }
     requires first_le_end { (first ≤ end) × (end ≤ 16777216) }
 {
-    let mut k = first + 4;
-    while k < end {
+    for k in (first + 4..end).step_by(8) {
         if is_sampled(g, allowed, stock, near, k) {
             return true;
         }
-        k += 8;
     }
     false
 }
@@ -77,7 +72,6 @@ fn count_run(
     from: usize,
     counts: &mut [u16],
 ) -> bool
-    requires gauged { Gauged g }
     requires sensing { Sensing g.setup map.now allowed.now stock.now near.now rim.now (g.setup.grid.ny * g.setup.grid.nx) }
     requires j_lt_ny { (j < g.setup.grid.ny) × (first ≤ end) × (end ≤ g.setup.grid.nx) }
     requires counts_value { counts.old ≡ replicate 32 0 }
@@ -93,18 +87,14 @@ fn count_run(
 }
 
 // The hits that are counted in place c, where they are told and it is one of the places.
-fn known_at(counts: &[u16], told: bool, c: usize) -> Known
+fn known_at(counts: &[u16], told: bool, c: usize) -> Option<usize>
     requires { length counts.now ≡ 32 }
-    ensures { result.told ≡ true → (told ≡ true) × (c < 32) × (result.hits ≡ get_or counts.now c 0) }
+    ensures { IfSome result (λ hits. (told ≡ true) × (c < 32) × (hits ≡ get_or counts.now c 0)) }
 {
-    if c < 32 {
-        let hits = counts[c] as usize;
-        return Known { told, hits };
+    if told & (c < 32) {
+        return Some(counts[c] as usize);
     }
-    Known {
-        told: false,
-        hits: 0,
-    }
+    None
 }
 
 // Works out the cells of row j from `first` on, before `end`. Where `told`, the hits around the cells from `from` on are
@@ -125,7 +115,6 @@ fn field_cells(
     end: usize,
     sampled: usize,
 ) -> usize
-    requires gauged { Gauged g }
     requires sensing { Sensing g.setup map.now allowed.now stock.now near.now rim.now (length f.old) }
     requires counts_len { (length counts.now ≡ 32) × (told ≡ true → HitsAlong g.setup.grid map.now g.setup.r (samples_of g.setup.samples) from j counts.now) }
     requires j_lt_ny { (j < g.setup.grid.ny) × (sampled ≤ number g.setup.grid.nx first j) }
@@ -154,7 +143,6 @@ fn field_run(
     end: usize,
     sampled: usize,
 ) -> usize
-    requires gauged { Gauged g }
     requires sensing { Sensing g.setup map.now allowed.now stock.now near.now rim.now (length f.old) }
     requires j_lt_ny { (j < g.setup.grid.ny) × (sampled ≤ number g.setup.grid.nx first j) }
     requires first_le_end { (first ≤ end) × (end ≤ g.setup.grid.nx) }
@@ -193,17 +181,17 @@ fn field_row(
     j: usize,
     sampled: usize,
 ) -> usize
-    requires gauged { Gauged g }
     requires sensing { Sensing g.setup map.now allowed.now stock.now near.now rim.now (length f.old) }
     requires j_lt_ny { (j < g.setup.grid.ny) × (sampled ≤ j * g.setup.grid.nx) × (w.left ≤ g.setup.grid.nx) }
     ensures { sensed f.new result ≡ window_row g.setup g.all map.now allowed.now stock.now near.now w j (sensed f.old sampled) }
 {
-    let first = greatest(1, w.left);
-    let end = least(w.right, g.setup.grid.nx - 1);
+    let first = w.left.max(1);
+    let end = w.right.min(g.setup.grid.nx - 1);
     let mut n = sampled;
     let mut i = first;
+    // 32 cells at a time; the last are fewer.
     while i < end {
-        let next = least(i + 32, end);
+        let next = (i + 32).min(end);
         n = field_run(g, map, allowed, stock, near, rim, f, j, i, next, n);
         i = next;
     }
@@ -221,13 +209,12 @@ pub fn field_rows(
     rim: &[f64],
     f: &mut [f32],
 ) -> usize
-    requires gauged { Gauged g }
     requires sensing { Sensing g.setup map.now allowed.now stock.now near.now rim.now (length f.old) }
     requires left_le_nx { w.left ≤ g.setup.grid.nx }
     ensures { sensed f.new result ≡ window_rows g.setup g.all map.now allowed.now stock.now near.now w (sensed f.old 0) }
 {
-    let first = greatest(1, w.lo);
-    let end = least(w.hi, g.setup.grid.ny - 1);
+    let first = w.lo.max(1);
+    let end = w.hi.min(g.setup.grid.ny - 1);
     let mut n = 0;
     for j in first..end {
         n = field_row(g, w, map, allowed, stock, near, rim, f, j, n);

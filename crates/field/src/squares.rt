@@ -6,30 +6,27 @@ ghost use Rattle.raster.specs.Grid.{Sides};
 ghost use Rattle.setup.specs.Layout.{dirty_in};
 ghost use Rattle.setup.specs.Place.{cells_of};
 ghost use Rattle.field.specs.Bands.{RowsOf, MarkedRows, rows_of, columns_of, WantedIn};
-ghost use Rattle.field.specs.Gauge.{Gauged};
 ghost use Rattle.field.specs.Squares.{squares_put, StockedRows, NearedRows, Stocked, Neared, Measured};
 
 use super::band::{Band, around, margin, widen};
 use super::gauge::Gauge;
-use dilation::window::{Bounds, Window, shade, takes};
+use dilation::window::{Bounds, Window, bound, shade};
 use raster::grid::Grid;
 use setup::layout;
 
 // The window in which a cell may be wanted.
 pub fn wanted_window(g: Gauge, b: &[u8]) -> Window
-    requires gauged { Gauged g }
     requires sides { Sides g.setup.grid }
     requires setup_in_bounds { 5 * cells_of g.setup ≤ length b.now }
     ensures { WantedIn g.setup g.all (dirty_in (cells_of g.setup) b.now) result }
 {
     let grid = g.setup.grid;
     if !g.all {
-        let l = g.near.limit;
-        if l.told {
+        if let Some(below) = g.near.below {
             let n = layout::cells(grid);
             let a = layout::dirty(n);
             let e = a + n;
-            return around(grid, l, &b[a..e]);
+            return around(grid, below, &b[a..e]);
         }
     }
     Window {
@@ -61,7 +58,6 @@ fn squares(g: Grid, band: Band, b: &[u8], a: usize, u: &mut [u32], c: usize)
 
 // To stock, as far as it matters to the cells of a band.
 fn stock_squares(g: Gauge, band: Band, b: &[u8], u: &mut [u32])
-    requires gauged { Gauged g }
     requires sides { Sides g.setup.grid }
     requires lo_lt_hi { (band.lo < band.hi) × (band.hi ≤ g.setup.grid.ny) }
     requires setup_in_bounds { cells_of g.setup ≤ length b.now }
@@ -70,7 +66,7 @@ fn stock_squares(g: Gauge, band: Band, b: &[u8], u: &mut [u32])
 {
     let grid = g.setup.grid;
     let ny = grid.ny;
-    let m = margin(g.far.limit, ny);
+    let m = margin(g.far.below, ny);
     let wide = widen(band, m, ny);
     squares(grid, wide, b, 0, u, 0);
 }
@@ -91,21 +87,18 @@ fn near_squares(g: Grid, band: Band, b: &[u8], u: &mut [u32])
 }
 
 // What stands for the squares to stock in a window, by the stock around it.
-fn shade_stock(g: Gauge, w: Window, b: &[u8], u: &mut [u32])
-    requires gauged { Gauged g }
+fn shade_stock(g: Gauge, w: Window, e: Bounds, b: &[u8], u: &mut [u32])
     requires sides { Sides g.setup.grid }
     requires rows_of { RowsOf g.setup.grid.ny (rows_of w) × RowsOf g.setup.grid.nx (columns_of w) }
     requires setup_in_bounds { (cells_of g.setup ≤ length b.now) × (5 * cells_of g.setup ≤ length u.old) }
-    requires takes { Takes g.far.limit }
-    requires takes_2 { Takes g.deep.limit }
+    requires far { Takes g.far e.far }
+    requires deep { Takes g.deep e.near }
     ensures { Stocked g.setup w b.now u.old u.new }
 {
     let grid = g.setup.grid;
     let n = layout::cells(grid);
-    let far = g.far.limit;
-    let deep = g.deep.limit;
-    let m = margin(far, grid.ny);
-    let k = margin(far, grid.nx);
+    let m = margin(g.far.below, grid.ny);
+    let k = margin(g.far.below, grid.nx);
     let rows = widen(Band { lo: w.lo, hi: w.hi }, m, grid.ny);
     let cols = widen(
         Band {
@@ -121,36 +114,28 @@ fn shade_stock(g: Gauge, w: Window, b: &[u8], u: &mut [u32])
         left: cols.lo,
         right: cols.hi,
     };
-    let e = Bounds {
-        near: deep.below,
-        far: far.below,
-    };
     shade(&b[0..n], grid.nx, wide, 1, 0, e, &mut u[0..n]);
 }
 
 fn stock_words(g: Gauge, w: Window, b: &[u8], u: &mut [u32])
-    requires gauged { Gauged g }
     requires sides { Sides g.setup.grid }
     requires rows_of { RowsOf g.setup.grid.ny (rows_of w) × RowsOf g.setup.grid.nx (columns_of w) × (w.lo < w.hi) }
     requires setup_in_bounds { (cells_of g.setup ≤ length b.now) × (5 * cells_of g.setup ≤ length u.old) }
     ensures { Stocked g.setup w b.now u.old u.new }
 {
-    if takes(g.far.limit) {
-        if takes(g.deep.limit) {
-            shade_stock(g, w, b, u);
-            return;
-        }
+    if let (Some(far), Some(near)) = (bound(g.far), bound(g.deep)) {
+        shade_stock(g, w, Bounds { near, far }, b, u);
+        return;
     }
     stock_squares(g, Band { lo: w.lo, hi: w.hi }, b, u);
 }
 
 // What stands for the squares to cells that were cut, all of which are in the window.
-fn shade_near(g: Gauge, w: Window, b: &[u8], u: &mut [u32])
-    requires gauged { Gauged g }
+fn shade_near(g: Gauge, w: Window, far: u32, b: &[u8], u: &mut [u32])
     requires sides { Sides g.setup.grid }
     requires wanted_in { WantedIn g.setup false (dirty_in (cells_of g.setup) b.now) w }
     requires setup_in_bounds { (5 * cells_of g.setup ≤ length b.now) × (5 * cells_of g.setup ≤ length u.old) }
-    requires takes { Takes g.near.limit }
+    requires takes { Takes g.near far }
     ensures { Neared g.setup w b.now u.old u.new }
 {
     let grid = g.setup.grid;
@@ -159,23 +144,18 @@ fn shade_near(g: Gauge, w: Window, b: &[u8], u: &mut [u32])
     let e = a + n;
     let c = layout::near(n);
     let d = c + n;
-    let l = g.near.limit;
-    let bounds = Bounds {
-        near: 0,
-        far: l.below,
-    };
+    let bounds = Bounds { near: 0, far };
     shade(&b[a..e], grid.nx, w, 1, 0, bounds, &mut u[c..d]);
 }
 
 fn near_words(g: Gauge, w: Window, b: &[u8], u: &mut [u32])
-    requires gauged { Gauged g }
     requires sides { Sides g.setup.grid }
     requires wanted_in { WantedIn g.setup false (dirty_in (cells_of g.setup) b.now) w × (w.lo < w.hi) }
     requires setup_in_bounds { (5 * cells_of g.setup ≤ length b.now) × (5 * cells_of g.setup ≤ length u.old) }
     ensures { Neared g.setup w b.now u.old u.new }
 {
-    if takes(g.near.limit) {
-        shade_near(g, w, b, u);
+    if let Some(far) = bound(g.near) {
+        shade_near(g, w, far, b, u);
         return;
     }
     near_squares(g.setup.grid, Band { lo: w.lo, hi: w.hi }, b, u);
@@ -183,7 +163,6 @@ fn near_words(g: Gauge, w: Window, b: &[u8], u: &mut [u32])
 
 // Both, or the first alone where all cells are worked out anew.
 pub fn measure(g: Gauge, w: Window, b: &[u8], u: &mut [u32])
-    requires gauged { Gauged g }
     requires sides { Sides g.setup.grid }
     requires setup_in_bounds { 5 * cells_of g.setup ≤ length b.now }
     requires setup_in_bounds_2 { 5 * cells_of g.setup ≤ length u.old }

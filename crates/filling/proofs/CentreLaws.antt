@@ -12,7 +12,7 @@ use borrow.Author.Tests.{ltb-true, ltb-false}
 use Rattle.loops.proofs.Cases.{by_cases}
 use Rattle.floats.proofs.OrderLaws.{le_lt}
 use Rattle.raster.specs.declared.grid.Grid.{Grid}
-use Rattle.filling.specs.Columns.{column_x, Centred, Rising, Past, Before}
+use Rattle.filling.specs.Columns.{Skipped, column_x, Centred, Rising, Past, Before}
 
 -- ---- the centres of the columns below k are there
 
@@ -36,57 +36,53 @@ centring_more g n xs k v c h e = record {
 pub centring_end : (g : Grid) (n : ℕ) (xs : List Float) (k : ℕ) → Centring g n xs k → n ≡ g.nx → n ≤ k → Centred g xs
 centring_end g n xs k c e h = record { long = c.long ∙ e; at = λ i l. c.at i (omega arith) }
 
--- ---- no column below i is left of the one before it
+-- ---- no column is left of the one before it
 
-pub record Climbing (xs : List Float) (i : ℕ) : Type 0 where
-  pub low : 1 ≤ i
-  pub at : (k : ℕ) → k + 1 < i → le (get_or xs k nan) (get_or xs (k + 1) nan) ≡ true
-
-module _ (xs : List Float) where
-  pub climbing_none : Climbing xs 1
-  climbing_none = record { low = omega arith; at = λ k h. absurd (let z : ⊥ = omega arith in z) }
-
-  pub climbing_more : (i : ℕ) → Climbing xs i → le (get_or xs (i - 1) nan) (get_or xs i nan) ≡ true → Climbing xs (i + 1)
-  climbing_more i c e = record {
-    low = omega arith;
-    at = λ k h. by_cases (ltb (k + 1) i)
-        (λ u. c.at k (ltb-true (k + 1) i u))
-        (λ u.
-        let z : k + 1 ≡ i = omega (arith, ltb-false (k + 1) i u) in
-        let y : k ≡ i - 1 = omega arith in
-        rw (z, y) e);
-  }
-
-  climb : (i : ℕ) → Climbing xs i → length xs ≤ i → (d k : ℕ) (x : Float) → k + d < length xs → lt (get_or xs (k + d) nan) x ≡ true → lt (get_or xs k nan) x ≡ true
-  climb i c l zero k x h e = subst (λ (j : ℕ). lt (get_or xs j nan) x ≡ true) (let z : k + zero ≡ k = omega arith in z) e
-  climb i c l (suc d) k x h e =
-      climb i c l d k x (omega arith)
-      (le_lt (get_or xs (k + d) nan) (get_or xs (k + d + 1) nan) x (c.at (k + d) (omega arith))
+module _ (xs : List Float) (steps : (k : ℕ) → k + 1 < length xs → le (get_or xs k nan) (get_or xs (k + 1) nan) ≡ true) where
+  climb : (d k : ℕ) (x : Float) → k + d < length xs → lt (get_or xs (k + d) nan) x ≡ true → lt (get_or xs k nan) x ≡ true
+  climb zero k x h e = subst (λ (j : ℕ). lt (get_or xs j nan) x ≡ true) (let z : k + zero ≡ k = omega arith in z) e
+  climb (suc d) k x h e =
+      climb d k x (omega arith)
+      (le_lt (get_or xs (k + d) nan) (get_or xs (k + d + 1) nan) x (steps (k + d) (omega arith))
       (subst (λ (j : ℕ). lt (get_or xs j nan) x ≡ true) (let z : k + suc d ≡ k + d + 1 = omega arith in z) e))
 
-  pub climbing_end : (i : ℕ) → Climbing xs i → length xs ≤ i → Rising xs
-  climbing_end i c l = record {
-    at = λ k m x h b e. climb i c l (m - k) k x (omega arith) (subst (λ (j : ℕ). lt (get_or xs j nan) x ≡ true) (let z : m ≡ k + (m - k) = omega arith in z) e);
+  pub rising-steps : Rising xs
+  rising-steps = record {
+    at = λ k m x h b e. climb (m - k) k x (omega arith) (subst (λ (j : ℕ). lt (get_or xs j nan) x ≡ true) (let z : m ≡ k + (m - k) = omega arith in z) e);
   }
 
-  -- ---- the columns left of x
+module _ (xs : List Float) (x : Float) (k : ℕ) where
+  pub past-at : k < length xs → lt (get_or xs k nan) x ≡ false → Past xs x k
+  past-at h e = record { most = omega arith; past = λ l. e }
 
-  module _ (x : Float) (k : ℕ) where
-    pub past-at : k < length xs → lt (get_or xs k nan) x ≡ false → Past xs x k
-    past-at h e = record { most = omega arith; past = λ l. e }
+  pub past_all : k ≤ length xs → length xs ≤ k → Past xs x k
+  past_all h l = record { most = h; past = λ b. absurd (let z : ⊥ = omega arith in z) }
 
-    pub past_all : k ≤ length xs → length xs ≤ k → Past xs x k
-    past_all h l = record { most = h; past = λ b. absurd (let z : ⊥ = omega arith in z) }
+  -- column k is not left of x, and the one before it is
+  pub before_of_lem : Rising xs → Past xs x k → (0 < k → lt (get_or xs (k - 1) nan) x ≡ true) → Before xs x k
+  before_of_lem r p last = record {
+    most = p.most;
+    at = λ i h. by_cases (ltb i k)
+        (λ u. let l = ltb-true i k u in let m = p.most in r.at i (k - 1) x (omega arith) (omega arith) (last (omega arith)) ∙ sym u)
+        (λ u.
+        let l = ltb-false i k u in
+        by_cases (lt (get_or xs i nan) x)
+        (λ e. absurd (true≢false (sym (r.at k i x l h e) ∙ p.past (omega arith))))
+        (λ e. e ∙ sym u));
+  }
 
-    -- column k is not left of x, and the one before it is
-    pub before_of_lem : Rising xs → Past xs x k → (0 < k → lt (get_or xs (k - 1) nan) x ≡ true) → Before xs x k
-    before_of_lem r p last = record {
-      most = p.most;
-      at = λ i h. by_cases (ltb i k)
-          (λ u. let l = ltb-true i k u in let m = p.most in r.at i (k - 1) x (omega arith) (omega arith) (last (omega arith)) ∙ sym u)
-          (λ u.
-          let l = ltb-false i k u in
-          by_cases (lt (get_or xs i nan) x)
-          (λ e. absurd (true≢false (sym (r.at k i x l h e) ∙ p.past (omega arith))))
-          (λ e. e ∙ sym u));
-    }
+-- ---- columns that are left of x so far
+
+module _ (xs : List Float) (x : Float) (a : ℕ) where
+  pub skipped-none : Skipped xs x a a
+  skipped-none = record { at = λ i h k. absurd (let z : ⊥ = omega arith in z) }
+
+  pub skipped-more : (e : ℕ) → Skipped xs x a e → lt (get_or xs e nan) x ≡ true → Skipped xs x a (e + 1)
+  skipped-more e s l = record {
+    at = λ i h k. by_cases (ltb i e)
+        (λ u. s.at i h (ltb-true i e u))
+        (λ u. let z : i ≡ e = omega (arith, ltb-false i e u) in rw z l);
+  }
+
+  pub skipped-to : (e f : ℕ) → Skipped xs x a e → f ≤ e → Skipped xs x a f
+  skipped-to e f s h = record { at = λ i g k. s.at i g (omega arith) }

@@ -1,8 +1,15 @@
 -- Runs of columns, and bytes that tell columns: turned round, painted, covered. Assumes nothing.
+use borrow.Rule.Slice.PartMut.{put_mid}
+use native.Mathlib.Numerals.{add-one}
+use lib.ListN.{take, drop, replicate, length-take, length-drop, take-append-drop}
+use mathlib.Core.List.{◌++◌}
+use Rattle.std.proofs.lemmas.List.{set-append_right}
+use Rattle.loops.specs.Loop.{turns}
+use Rattle.loops.proofs.FillLaws.{filled, filled_more}
 use mathlib.Core.Path.{◌≡◌, refl, sym, ap, ◌∙◌}
 use mathlib.Core.Bool.{Bool, true, false, not, cond, ◌&&◌, ◌||◌, beq, and-false}
 use mathlib.Core.List.{List}
-use Prim.Native.Nat.{ℕ, ◌+◌, ◌≤◌, ◌<◌, max}
+use Prim.Native.Nat.{ℕ, zero, suc, ◌+◌, ◌-◌, ◌≤◌, ◌<◌, max}
 use native.Mathlib.Omega.{arith}
 use lib.ListN.{length, get_or, set, length-set}
 use lib.Seq.{get_or-set_same, get_or-set_other, set-get_or}
@@ -90,6 +97,26 @@ set_long false k m = refl
 
 free_one : (base : ℕ) (cover : List ℕ) (i : ℕ) (m : List ℕ) → length (free_at base cover i m) ≡ length m
 free_one base cover i m = by_cases (eqb (get_or cover i 0) 1) (λ e. rw e) (λ e. rw e (length-set m (base + i) 1))
+
+-- bytes that are filled as a slice of their own
+painted-turns : (l : List ℕ) (base v a k : ℕ) → base + a + k ≤ length l → turns (paint_at base v) a k l ≡ take (base + a) l ++ filled v k (drop (base + a) l)
+unfolding turns
+painted-turns l base v a zero h = sym (take-append-drop (base + a) l)
+painted-turns l base v a (suc k) h =
+    let p = base + a in
+    let front : length (take p l) ≡ p = omega (arith, length-take p l) in
+    let room : k < length (drop p l) = omega (arith, length-drop p l) in
+    let past : p ≤ base + (a + k) = omega arith in
+    ap (λ (t : List ℕ). set t (base + (a + k)) v) (painted-turns l base v a k (omega arith))
+    ∙ set-append_right (take p l) (filled v k (drop p l)) p (base + (a + k)) v front past
+    ∙ ap (λ (i : ℕ). take p l ++ set (filled v k (drop p l)) i v) (let z : base + (a + k) - p ≡ k = omega arith in z)
+    ∙ ap (λ (t : List ℕ). take p l ++ t) (filled_more v (drop p l) k room ∙ ap (λ (i : ℕ). filled v i (drop p l)) (add-one k))
+
+pub filled-painted : (l : List ℕ) (base v a b : ℕ) (r : List ℕ) → a ≤ b → base + b ≤ length l → r ≡ replicate (base + b - (base + a)) v → put_mid (base + a) (base + b - (base + a)) l r ≡ loop (paint_at base v) a b l
+unfolding loop
+filled-painted l base v a b r h k e =
+    ap (put_mid (base + a) (base + b - (base + a)) l) e
+    ∙ sym (ap (λ (n : ℕ). turns (paint_at base v) a n l) (let z : b - a ≡ base + b - (base + a) = omega arith in z) ∙ painted-turns l base v a (base + b - (base + a)) (omega arith))
 
 pub paint_long : (base v a e : ℕ) (m : List ℕ) → length (loop (paint_at base v) a e m) ≡ length m
 paint_long base v a e m = loop-long (paint_at base v) (λ i l. length-set l (base + i) v) a e m

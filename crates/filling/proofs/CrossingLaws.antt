@@ -1,4 +1,5 @@
 -- What the proofs of crossings.rt cite: the edges of a loop that cross a row. Assumes nothing.
+use Rattle.std.specs.Prelude.{Option, None, IfSome}
 use mathlib.Core.Path.{◌≡◌, refl, sym, ap, ◌∙◌, subst}
 use mathlib.Core.Bool.{Bool, true, false, not-not}
 use mathlib.Core.List.{List}
@@ -14,7 +15,7 @@ use Rattle.loops.proofs.Cases.{by_cases, by_test}
 use Rattle.geom.specs.Vec.{v2}
 use Rattle.geom.specs.Region.{edge_at, vertex_of, crossing_of, before, turned}
 use Rattle.filling.specs.declared.crossings.Pair.{Pair}
-use Rattle.filling.specs.Columns.{Before, crosses, NextCrossing, in_run, turned_if, Paired, pair, ordered_of}
+use Rattle.filling.specs.Columns.{left_from, Before, crosses, NextCrossing, in_run, turned_if, Paired, pair, ordered_of}
 
 -- ---- no edge from `from` on below i crosses the row
 
@@ -97,23 +98,23 @@ module _ (xs vs : List Float) (at n : ℕ) (y : Float) (i k j : ℕ) (e : crosse
   columns-turn c s h = one-turns vs at n y (get_or xs c nan) i j s e J ∙ ap (λ (b : Bool). turned_if b s) (K.at c h)
 
   -- no edge after it crosses
-  pub paired_alone : j ≡ n → Paired xs vs at n y i (pair 0 k n)
+  pub paired_alone : j ≡ n → Paired xs vs at n y i (pair 0 k None)
   unfolding in_run
   paired_alone z = record {
     run = omega arith;
     most = K.most;
     on = omega (arith, J.low);
-    high = omega arith;
+    next-on = tt;
     is = λ c s h. rw (le-leb 0 c (omega arith)) (subst (λ (m : ℕ). loop (edge_at vs at n (v2 (get_or xs c nan) y)) i m s ≡ turned_if (ltb c k) s) z (columns-turn c s h));
     cross = λ h. absurd (let z : ⊥ = omega arith in z);
   }
 
-module _ (xs vs : List Float) (at n : ℕ) (y : Float) (i k j l next : ℕ) (e : crosses vs at n y i ≡ true) (K : Before xs (crossing_at vs at n y i) k) (J : NextCrossing vs at n y (i + 1) j) (h : j < n)
-    (L : Before xs (crossing_at vs at n y j) l) (N : NextCrossing vs at n y (j + 1) next) where
-  two-turn : (c : ℕ) (s : Bool) → c < length xs → loop (edge_at vs at n (v2 (get_or xs c nan) y)) i next s ≡ turned_if (ltb c l) (turned_if (ltb c k) s)
+module _ (xs vs : List Float) (at n : ℕ) (y : Float) (i k j l : ℕ) (next : Option ℕ) (e : crosses vs at n y i ≡ true) (K : Before xs (crossing_at vs at n y i) k) (J : NextCrossing vs at n y (i + 1) j) (h : j < n)
+    (L : Before xs (crossing_at vs at n y j) l) (N : NextCrossing vs at n y (j + 1) (left_from n next)) (O : IfSome next (λ (m : ℕ). m < n)) where
+  two-turn : (c : ℕ) (s : Bool) → c < length xs → loop (edge_at vs at n (v2 (get_or xs c nan) y)) i (left_from n next) s ≡ turned_if (ltb c l) (turned_if (ltb c k) s)
   two-turn c s b =
-      loop_split (edge_at vs at n (v2 (get_or xs c nan) y)) i j next s (omega (arith, J.low)) (omega (arith, N.low))
-      ∙ columns-turn xs vs at n y j l next (J.cross h) L N c _ b
+      loop_split (edge_at vs at n (v2 (get_or xs c nan) y)) i j (left_from n next) s (omega (arith, J.low)) (omega (arith, N.low))
+      ∙ columns-turn xs vs at n y j l (left_from n next) (J.cross h) L N c _ b
       ∙ ap (turned_if (ltb c l)) (columns-turn xs vs at n y i k j e K J c s b)
 
   paired_run : (a b : ℕ) → a ≤ b → b ≤ length xs → ((c : ℕ) (s : Bool) → turned_if (ltb c l) (turned_if (ltb c k) s) ≡ turned_if (in_run a b c) s) → Paired xs vs at n y i (pair a b next)
@@ -121,7 +122,7 @@ module _ (xs vs : List Float) (at n : ℕ) (y : Float) (i k j l next : ℕ) (e :
     run = r;
     most = m;
     on = omega (arith, J.low, N.low);
-    high = N.high;
+    next-on = O;
     is = λ c s d. two-turn c s d ∙ t c s;
     cross = N.cross;
   }

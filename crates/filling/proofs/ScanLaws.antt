@@ -1,4 +1,5 @@
 -- The columns of a loop, pair of crossings by pair. Assumes nothing.
+use Rattle.std.specs.Prelude.{Option, None, Some, IfSome}
 use mathlib.Core.Path.{◌≡◌, sym, ap, ◌∙◌}
 use mathlib.Core.Bool.{Bool, true, false, ◌||◌}
 use mathlib.Core.List.{List}
@@ -14,9 +15,13 @@ use Rattle.loops.proofs.LoopLaws.{loop_split}
 use Rattle.geom.specs.Vec.{v2}
 use Rattle.geom.specs.Region.{edge_at, point_in_loop}
 use Rattle.filling.specs.declared.crossings.Pair.{Pair}
-use Rattle.filling.specs.Columns.{crosses, NextCrossing, in_run, turned_if, Paired, Shows, nowhere, Runs, Turned, Blank, in_loop}
+use Rattle.filling.specs.Columns.{left_from, crosses, NextCrossing, in_run, turned_if, Paired, Shows, nowhere, Runs, Turned, Blank, in_loop}
 use Rattle.filling.proofs.ColumnLaws.{run_none, turned-no}
 use Rattle.filling.proofs.CrossingLaws.{idle-edges}
+
+left-high : (n : ℕ) (next : Option ℕ) → IfSome next (λ (i : ℕ). i < n) → left_from n next ≤ n
+left-high n None h = omega arith
+left-high n (Some i) h = omega arith
 
 module _ (xs vs : List Float) (at n : ℕ) (y : Float) where
   -- the answer of column c after the edges before i
@@ -49,16 +54,16 @@ module _ (xs vs : List Float) (at n : ℕ) (y : Float) where
     told : (c : ℕ) → c < length xs → eqb (get_or row' c 0) 1 ≡ edges_to c i
     told c k = t.at c (omega (arith, s.long)) ∙ s.is c k
 
-    pub scan_more : (p : Pair) → Paired xs vs at n y i p → Scanned p.a p.b (many || ltb a b) row' p.next
+    pub scan_more : (p : Pair) → Paired xs vs at n y i p → Scanned p.a p.b (many || ltb a b) row' (left_from n p.next)
     scan_more p q = record {
       run = q.run;
       most = q.most;
-      high = q.high;
+      high = left-high n p.next q.next-on;
       long = omega (arith, s.long, t.long);
       cross = q.cross;
       is = λ c k.
           ap (turned_if (in_run p.a p.b c)) (told c k) ∙ sym (q.is c (edges_to c i) k)
-          ∙ sym (loop_split (edge_at vs at n (v2 (get_or xs c nan) y)) 0 i p.next false (omega arith) (omega (arith, q.on)));
+          ∙ sym (loop_split (edge_at vs at n (v2 (get_or xs c nan) y)) 0 i (left_from n p.next) false (omega arith) (omega (arith, q.on)));
       none = λ m.
           let z = neither many (ltb a b) m in
           let e : a ≡ b = omega (arith, s.run, ltb-false a b z.1) in

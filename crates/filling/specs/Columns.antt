@@ -1,6 +1,6 @@
 -- How the code finds a region's cells, row by row: a column is in a loop where an odd number of the loop's edges cross the row to the right of its centre, and the
 -- columns to the left of a crossing are the first k. What the inner functions promise one another; the planner's promises rest on Fill.antt alone. Definitions only.
-use Rattle.std.specs.Prelude.{ℕ, ◌+◌, ◌≤◌, ◌<◌, ◌≡◌, Bool, true, false, not, cond, ◌&&◌, ◌||◌, List, length, get_or, set, eqb, leb, ltb, Float}
+use Rattle.std.specs.Prelude.{ℕ, ◌+◌, ◌≤◌, ◌<◌, ◌≡◌, Bool, true, false, not, cond, ◌&&◌, ◌||◌, List, length, get_or, set, eqb, leb, ltb, Float, Option, None, Some, IfSome}
 use Rattle.std.specs.Bool.{beq}
 use Rattle.std.specs.Float.{nan, binary64}
 use Rattle.std.specs.Float.Ieee.{add, lt}
@@ -34,6 +34,10 @@ pub record Past (xs : List Float) (x : Float) (k : ℕ) : Type 0 where
   pub most : k ≤ length xs
   pub past : k < length xs → lt (get_or xs k nan) x ≡ false
 
+-- columns from a on below e are left of x
+pub record Skipped (xs : List Float) (x : Float) (a e : ℕ) : Type 0 where
+  pub at : (i : ℕ) → a ≤ i → i < e → lt (get_or xs i nan) x ≡ true
+
 -- the columns left of x are the first k
 pub record Before (xs : List Float) (x : Float) (k : ℕ) : Type 0 where
   pub most : k ≤ length xs
@@ -52,6 +56,11 @@ pub record NextCrossing (vs : List Float) (at n : ℕ) (y : Float) (from e : ℕ
   pub idle : (i : ℕ) → from ≤ i → i < e → crosses vs at n y i ≡ false
   pub cross : e < n → crosses vs at n y e ≡ true
 
+-- the edges that are left begin at the next one, n where there is none
+abbrev pub left_from : ℕ → Option ℕ → ℕ
+left_from n None = n
+left_from n (Some i) = i
+
 -- columns from a on below b
 unfoldable pub in_run : ℕ → ℕ → ℕ → Bool
 in_run a b i = leb a i && ltb i b
@@ -63,15 +72,15 @@ turned_if b s = cond b (not s) s
 pub record Paired (xs vs : List Float) (at n : ℕ) (y : Float) (i : ℕ) (p : Pair) : Type 0 where
   pub run : p.a ≤ p.b
   pub most : p.b ≤ length xs
-  pub on : i < p.next
-  pub high : p.next ≤ n
-  pub is : (c : ℕ) (s : Bool) → c < length xs → loop (edge_at vs at n (v2 (get_or xs c nan) y)) i p.next s ≡ turned_if (in_run p.a p.b c) s
-  pub cross : p.next < n → crosses vs at n y p.next ≡ true
+  pub on : i < left_from n p.next
+  pub next-on : IfSome p.next (λ j. j < n)
+  pub is : (c : ℕ) (s : Bool) → c < length xs → loop (edge_at vs at n (v2 (get_or xs c nan) y)) i (left_from n p.next) s ≡ turned_if (in_run p.a p.b c) s
+  pub cross : left_from n p.next < n → crosses vs at n y (left_from n p.next) ≡ true
 
-abbrev pub pair : ℕ → ℕ → ℕ → Pair
+abbrev pub pair : ℕ → ℕ → Option ℕ → Pair
 pair a b next = record { a = a; b = b; next = next }
 
-unfoldable pub ordered_of : ℕ → ℕ → ℕ → Pair
+unfoldable pub ordered_of : ℕ → ℕ → Option ℕ → Pair
 ordered_of k l next = cond (ltb k l) (pair k l next) (pair l k next)
 
 -- ---- which columns: bytes, and runs

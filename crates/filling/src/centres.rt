@@ -1,6 +1,6 @@
 // The columns of a raster by the x of their centres, and how many of them are left of a place.
 ghost use Rattle.std.specs.Prelude.{◌≡◌, true, ◌≤◌, length};
-ghost use Rattle.filling.specs.Columns.{Centred, Rising, Past, Before};
+ghost use Rattle.filling.specs.Columns.{Centred, Rising, Past, Skipped, Before};
 
 use numbers::cast::{float_of, sat_u32};
 use raster::grid::Grid;
@@ -10,8 +10,8 @@ pub fn centres(g: Grid, xs: &mut [f64])
     requires { length xs.old ≡ g.nx }
     ensures { Centred g xs.new }
 {
-    for i in 0..xs.len() {
-        xs[i] = g.origin.x + (float_of(i) + 0.5) * g.cell;
+    for (i, x) in xs.iter_mut().enumerate() {
+        *x = g.origin.x + (float_of(i) + 0.5) * g.cell;
     }
 }
 
@@ -19,12 +19,7 @@ pub fn centres(g: Grid, xs: &mut [f64])
 pub fn rises(xs: &[f64]) -> bool
     ensures { result ≡ true → Rising xs.now }
 {
-    for i in 1..xs.len() {
-        if !(xs[i - 1] <= xs[i]) {
-            return false;
-        }
-    }
-    true
+    xs.windows(2).all(|pair| pair[0] <= pair[1])
 }
 
 // About how many columns are left of x.
@@ -38,16 +33,15 @@ fn guess(g: Grid, x: f64) -> usize
 // The first column from k on that is not left of x.
 fn skip_left(xs: &[f64], x: f64, from: usize) -> usize
     requires { from ≤ length xs.now }
-    ensures { Past xs.now x result }
+    ensures past { Past xs.now x result }
+    ensures skipped { Skipped xs.now x from result }
 {
-    let mut k = from;
-    while k < xs.len() {
+    for k in from..xs.len() {
         if !(xs[k] < x) {
             return k;
         }
-        k += 1;
     }
-    k
+    xs.len()
 }
 
 // Back from there to the first of all.
@@ -56,14 +50,12 @@ fn step_back(xs: &[f64], x: f64, from: usize) -> usize
     requires rising { Rising xs.now }
     ensures { Before xs.now x result }
 {
-    let mut k = from;
-    while 0 < k {
-        if xs[k - 1] < x {
-            return k;
+    for k in (0..from).rev() {
+        if xs[k] < x {
+            return k + 1;
         }
-        k -= 1;
     }
-    k
+    0
 }
 
 // How many columns are left of x: a guess, put right by the centres.

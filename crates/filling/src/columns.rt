@@ -41,14 +41,14 @@ pub fn columns_of(
     let mut a = 0;
     let mut b = 0;
     let mut many = false;
-    let mut i = next_crossing(vs, at, n, y, 0);
-    while i < n {
+    let mut next = next_crossing(vs, at, n, y, 0);
+    while let Some(i) = next {
         many = many | (a < b);
         turn(row, a, b);
         let p = pair_from(g, xs, vs, at, n, y, i);
         a = p.a;
         b = p.b;
-        i = p.next;
+        next = p.next;
     }
     if many {
         turn(row, a, b);

@@ -13,15 +13,14 @@ use raster::grid::Grid;
 
 // The bytes base + a on below base + b become v.
 fn paint(l: &mut [u8], base: usize, a: usize, b: usize, v: u8)
-    requires { base + b ≤ length l.old }
+    requires { (a ≤ b) × (base + b ≤ length l.old) }
     ensures { l.new ≡ loop (paint_at base v) a b l.old }
 {
-    for i in a..b {
-        l[base + i] = v;
-    }
+    l[base + a..base + b].fill(v);
 }
 
-// Sets the columns a on below b of the row that begins at base, but for those that are covered.
+// Sets the columns a on below b of the row that begins at base, but for those that are covered. Here and below two slices
+// are gone over by index: of a slice that is written through a zip the proof knows only the length.
 fn set_free(map: &mut [u8], base: usize, a: usize, b: usize, cover: &[u8])
     requires { (base + b ≤ length map.old) × (b ≤ length cover.now) }
     ensures { map.new ≡ loop (free_at base cover.now) a b map.old }

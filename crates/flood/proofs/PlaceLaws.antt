@@ -16,7 +16,7 @@ use Rattle.workspace.specs.Standing.{reach_in, abandoned_in}
 use Rattle.raster.specs.declared.grid.CellNo.{CellNo}
 use Rattle.flood.specs.Place.{open_at, better_of, farther_of, farthest_of}
 use Rattle.flood.specs.declared.place.Far.{Far}
-use Rattle.flood.specs.declared.place.Far.TheVariants.{Nothing, Cell}
+use Rattle.std.specs.Prelude.{Option, Some, None}
 
 -- ---- fits setup: a number of a run
 
@@ -39,50 +39,53 @@ module _ (b : List ℕ) (n k : ℕ) (h : k < n) where
 
 -- ---- one cell more
 
-pub better_first : (best : Far) (c : CellNo) (d : Float) → best ≡ Nothing → Cell c d ≡ better_of c d best
+pub better_first : (best : Option Far) (f : Far) → best ≡ None → f ≡ better_of f best
 unfolding better_of
-better_first best c d e = rw e refl
+better_first best f e = rw e refl
 
-pub better_new : (best : Far) (c e : CellNo) (d most : Float) → best ≡ Cell e most → lt most d ≡ true → Cell c d ≡ better_of c d best
+pub better_new : (best : Option Far) (f b : Far) → best ≡ Some b → lt b.distance f.distance ≡ true → f ≡ better_of f best
 unfolding better_of
-better_new best c e d most p t = rw (p, t) refl
+better_new best f b p t = rw (p, t) refl
 
-pub better_old : (best : Far) (c e : CellNo) (d most : Float) → best ≡ Cell e most → lt most d ≡ false → Cell e most ≡ better_of c d best
+pub better_old : (best : Option Far) (f b : Far) → best ≡ Some b → lt b.distance f.distance ≡ false → b ≡ better_of f best
 unfolding better_of
-better_old best c e d most p t = rw (p, t) refl
+better_old best f b p t = rw (p, t) refl
 
-module _ (b : List ℕ) (wall : List Float) (n k : ℕ) (h : k < n) (a : ℕ) (A : a ≡ 1 * n) (free : Bool) (O : free ≡ open_at (map_in n b) (reach_in n b) (abandoned_in n b) k) (best : Far) where
-  abbrev now : Far
+module _ (b : List ℕ) (wall : List Float) (n k : ℕ) (h : k < n) (a : ℕ) (A : a ≡ 1 * n) (free : Bool) (O : free ≡ open_at (map_in n b) (reach_in n b) (abandoned_in n b) k) (best : Option Far) where
+  abbrev now : Option Far
   now = farther_of (map_in n b) (allowed_in n b) (reach_in n b) (abandoned_in n b) wall k best
+
+  abbrev next : ℕ → Far
+  next i = record { cell = record { 0 = i }; distance = get_or wall k nan }
 
   test_is : free && eqb (get_or b (a + k) 0) 1 ≡ open_at (map_in n b) (reach_in n b) (abandoned_in n b) k && eqb (get_or (allowed_in n b) k 0) 1
   test_is = ap (λ (o : Bool). o && eqb (get_or b (a + k) 0) 1) O ∙ ap (λ (x : ℕ). open_at (map_in n b) (reach_in n b) (abandoned_in n b) k && eqb x 1) (byte_of b n k h 1 a A)
 
-  pub farther_new : free && eqb (get_or b (a + k) 0) 1 ≡ true → (c : CellNo) → c.0 ≡ k → (r : Far) → r ≡ better_of c (get_or wall k nan) best → r ≡ now
+  pub farther_new : free && eqb (get_or b (a + k) 0) 1 ≡ true → (c : CellNo) → c.0 ≡ k → (r : Far) → r ≡ better_of (record { cell = c; distance = get_or wall k nan }) best → Some r ≡ now
   unfolding farther_of
   farther_new t c e r q =
-      q ∙ ap (λ (i : ℕ). better_of (record { 0 = i }) (get_or wall k nan) best) e
-      ∙ sym (ap (λ (o : Bool). cond o (better_of (record { 0 = k }) (get_or wall k nan) best) best) (sym test_is ∙ t))
+      ap Some q ∙ ap (λ (i : ℕ). Some (better_of (next i) best)) e
+      ∙ sym (ap (λ (o : Bool). cond o (Some (better_of (next k) best)) best) (sym test_is ∙ t))
 
   pub farther_old : free && eqb (get_or b (a + k) 0) 1 ≡ false → best ≡ now
   unfolding farther_of
-  farther_old t = sym (ap (λ (o : Bool). cond o (better_of (record { 0 = k }) (get_or wall k nan) best) best) (sym test_is ∙ t))
+  farther_old t = sym (ap (λ (o : Bool). cond o (Some (better_of (next k) best)) best) (sym test_is ∙ t))
 
 -- ---- the cell that is found is one of the n
 
-abbrev Below : ℕ → Far → Type 0
-Below n Nothing = Unit
-Below n (Cell c d) = c.0 < n
+abbrev Below : ℕ → Option Far → Type 0
+Below n None = Unit
+Below n (Some f) = f.cell.0 < n
 
-better_below : (n : ℕ) (c : CellNo) (d : Float) (best : Far) → c.0 < n → Below n best → Below n (better_of c d best)
+better_below : (n : ℕ) (f : Far) (best : Option Far) → f.cell.0 < n → Below n best → Below n (Some (better_of f best))
 unfolding better_of
-better_below n c d Nothing h g = h
-better_below n c d (Cell b e) h g = by_test (Below n) (lt e d) _ _ (λ t. h) (λ t. g)
+better_below n f None h g = h
+better_below n f (Some b) h g = by_test (λ (r : Far). r.cell.0 < n) (lt b.distance f.distance) _ _ (λ t. h) (λ t. g)
 
 module _ (map allowed reach gone : List ℕ) (wall : List Float) (n : ℕ) where
-  pub farthest_below : (c : CellNo) (d : Float) → farthest_of map allowed reach gone wall n ≡ Cell c d → c.0 < n
+  pub farthest_below : (f : Far) → farthest_of map allowed reach gone wall n ≡ Some f → f.cell.0 < n
   unfolding farthest_of farther_of
-  farthest_below c d e =
+  farthest_below f e =
       subst (Below n) e
       (loop_keeps (farther_of map allowed reach gone wall) 0 (Below n) n
-      (λ k best a h g. by_test (Below n) (open_at map reach gone k && eqb (get_or allowed k 0) 1) _ _ (λ t. better_below n (record { 0 = k }) (get_or wall k nan) best h g) (λ t. g)) Nothing tt)
+      (λ k best a h g. by_test (Below n) (open_at map reach gone k && eqb (get_or allowed k 0) 1) _ _ (λ t. better_below n (record { cell = record { 0 = k }; distance = get_or wall k nan }) best h g) (λ t. g)) None tt)

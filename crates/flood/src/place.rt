@@ -9,9 +9,9 @@ use setup::layout;
 
 // A cell and its distance from the walls.
 #[derive(Clone, Copy)]
-pub enum Far {
-    Nothing,
-    Cell(CellNo, f64),
+pub struct Far {
+    pub cell: CellNo,
+    pub distance: f64,
 }
 
 // Whether cell k is stock that the tool can reach and that is not given up.
@@ -28,20 +28,20 @@ pub fn is_open(b: &[u8], n: usize, k: usize) -> bool
     (b[k] == 1) & (reached & !given_up)
 }
 
-// The cell c, at the distance d, where it is farther than the best so far.
-fn better(best: Far, c: CellNo, d: f64) -> Far
-    ensures { result ≡ better_of c d best }
+// The next cell where it is farther than the best so far.
+fn better(best: Option<Far>, next: Far) -> Far
+    ensures { result ≡ better_of next best }
 {
-    let Far::Cell(_, most) = best else {
-        return Far::Cell(c, d);
+    let Some(b) = best else {
+        return next;
     };
-    if d > most {
-        return Far::Cell(c, d);
+    if next.distance > b.distance {
+        return next;
     }
-    best
+    b
 }
 
-fn farther(b: &[u8], wall: &[f64], n: usize, k: usize, best: Far) -> Far
+fn farther(b: &[u8], wall: &[f64], n: usize, k: usize, best: Option<Far>) -> Option<Far>
     requires n_le_most { n ≤ most }
     requires n_in_bounds { 8 * n ≤ length b.now }
     requires n_in_bounds_2 { n ≤ length wall.now }
@@ -50,19 +50,23 @@ fn farther(b: &[u8], wall: &[f64], n: usize, k: usize, best: Far) -> Far
 {
     let allowed = layout::allowed(n);
     if is_open(b, n, k) & (b[allowed + k] == 1) {
-        return better(best, cell_at(k), wall[k]);
+        let next = Far {
+            cell: cell_at(k),
+            distance: wall[k],
+        };
+        return Some(better(best, next));
     }
     best
 }
 
 // Of the open cells where the tool may go the farthest from the walls, the first on a tie.
-pub fn farthest(b: &[u8], wall: &[f64], n: usize) -> Far
+pub fn farthest(b: &[u8], wall: &[f64], n: usize) -> Option<Far>
     requires n_le_most { n ≤ most }
     requires n_in_bounds { 8 * n ≤ length b.now }
     requires n_in_bounds_2 { n ≤ length wall.now }
     ensures { result ≡ farthest_of (map_in n b.now) (allowed_in n b.now) (reach_in n b.now) (abandoned_in n b.now) wall.now n }
 {
-    let mut best = Far::Nothing;
+    let mut best = None;
     for k in 0..n {
         best = farther(b, wall, n, k, best);
     }

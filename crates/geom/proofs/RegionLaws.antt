@@ -4,7 +4,9 @@ use mathlib.Core.Bool.{Bool, true, false, not}
 use mathlib.Core.List.{List}
 use Prim.Native.Nat.{ℕ, ◌+◌, ◌-◌, ◌*◌, ◌≤◌, ◌<◌}
 use native.Mathlib.Omega.{arith}
-use lib.ListN.{length, get_or}
+use lib.ListN.{length, get_or, take, drop, length-take, length-drop}
+use Rattle.std.proofs.lemmas.List.{get_or-take}
+use Rattle.std.proofs.lemmas.Grind.{get_or_after_one}
 use lib.Ieee.{Float}
 use borrow.Author.Tests.{ne_eqb}
 use Rattle.loops.specs.Loop.{loop}
@@ -85,3 +87,32 @@ module _ (vs : List Float) (lens : List ℕ) (g : Region) (p : Vec2) (o : Bool) 
 pub bounds-is : (vs : List Float) (lens : List ℕ) (g : Region) (n : ℕ) (r : Corners) → n ≡ get_or lens g.first 0 → r ≡ loop_bounds vs g.at n → r ≡ bounds_of vs lens g
 unfolding bounds_of
 bounds-is vs lens g n r a e = e ∙ ap (λ (k : ℕ). loop_bounds vs k n) (start_first lens g) ∙ ap (loop_bounds vs (start_of lens g 0)) (a ∙ size_first lens g)
+
+-- ---- the loop whose length stands at k in the lengths of a region's loops
+
+module _ (lens sizes : List ℕ) (g : Region) (count : length sizes ≡ g.loops) (each : (l : ℕ) → l < g.loops → get_or sizes l 0 ≡ size_of lens g l) (k : ℕ) (K : k < length sizes) where
+  pub turn-loop : k < g.loops
+  turn-loop = omega (arith, count)
+
+  pub turn_size : get_or sizes k 0 ≡ size_of lens g k
+  turn_size = each k turn-loop
+
+  pub turn-held : (vs : List Float) → Held vs lens g → (at : ℕ) → at ≡ start_of lens g k → 2 * (at + get_or sizes k 0) ≤ length vs
+  turn-held vs h at e = omega (arith, loop-held lens g vs h k turn-loop, turn_size)
+
+  pub turn_next : (at : ℕ) → at ≡ start_of lens g k → at + get_or sizes k 0 ≡ start_of lens g (k + 1)
+  turn_next at e = omega (arith, start-next lens g k, turn_size)
+
+-- the loops behind the first one
+module _ (sizes : List ℕ) (k : ℕ) where
+  abbrev islands : List ℕ
+  islands = take (length sizes - 1) (drop 1 sizes)
+
+  pub island-in : k < length islands → k + 1 < length sizes
+  island-in h = omega (arith, length-take (length sizes - 1) (drop 1 sizes), length-drop 1 sizes)
+
+  pub island_is : k < length islands → get_or islands k 0 ≡ get_or sizes (k + 1) 0
+  island_is h =
+      get_or-take (length sizes - 1) (drop 1 sizes) k 0 (let z : k < length sizes - 1 = omega (arith, island-in h) in z)
+      ∙ get_or_after_one sizes k 0
+      ∙ ap (λ (n : ℕ). get_or sizes n 0) (let z : 1 + k ≡ k + 1 = omega arith in z)

@@ -5,7 +5,7 @@ ghost use Rattle.geom.specs.Region.{Held};
 ghost use Rattle.geom.specs.Segment.{edge_within, loop_within, any_within};
 ghost use Rattle.geom.specs.Apart.{Rooted, Apart, beyond_of};
 
-use super::region::{Corners, Region, size, vertex};
+use super::region::{Corners, Region, sizes, vertex};
 use super::segment::next;
 
 // Whether the distance of two points that are r apart along one axis comes out not below r. Asked once,
@@ -41,6 +41,8 @@ fn edge_apart(vs: &[f64], at: usize, n: usize, i: usize, c: Corners, r: f64) -> 
     is_beyond(s.x, e.x, lo.x, hi.x, r) | is_beyond(s.y, e.y, lo.y, hi.y, r)
 }
 
+// No walk with a closure serves here and in `segment`: one answers by an equation, the other stops at a no that
+// says nothing, and the clauses of such a walk are longer than both loops.
 fn loop_apart(vs: &[f64], at: usize, n: usize, c: Corners, r: f64) -> bool
     requires n_in_bounds { 2 * (at + n) ≤ length vs.now }
     requires rooted { Rooted r }
@@ -61,11 +63,10 @@ pub fn all_apart(vs: &[f64], lens: &[u32], g: Region, c: Corners, r: f64) -> boo
     requires rooted { Rooted r }
     ensures { result ≡ true → Apart c (λ p. any_within vs.now lens.now g p r) }
 {
-    let first = g.first;
-    let start = g.at;
-    let mut at = start;
-    for l in 0..g.loops {
-        let n = size(lens, first + l);
+    let loops = sizes(lens, g);
+    let mut at = g.at;
+    for n in loops {
+        let n = *n as usize;
         if !loop_apart(vs, at, n, c, r) {
             return false;
         }

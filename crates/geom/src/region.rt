@@ -1,7 +1,7 @@
 // Loops and regions over lent vertices: x and y of each vertex in one slice, the loops' lengths in
 // another. A region is a run of loops, the outer one first, then the islands.
-ghost use Rattle.std.specs.Prelude.{◌≡◌, ◌+◌, ◌*◌, ◌≤◌, ◌<◌, length, get_or};
-ghost use Rattle.geom.specs.Region.{vertex_of, straddles_of, crossing_of, turned, point_in_loop, in_island, contains_of, Held, widened, loop_bounds, bounds_of};
+ghost use Rattle.std.specs.Prelude.{◌≡◌, ℕ, ◌+◌, ◌*◌, ◌≤◌, ◌<◌, length, get_or};
+ghost use Rattle.geom.specs.Region.{vertex_of, straddles_of, crossing_of, turned, point_in_loop, in_island, contains_of, Held, size_of, widened, loop_bounds, bounds_of};
 
 use super::vec2::Vec2;
 
@@ -82,16 +82,26 @@ pub fn size(lens: &[u32], l: usize) -> usize
     lens[l] as usize
 }
 
+// The lengths of a region's loops.
+pub fn sizes(lens: &[u32], g: Region) -> &[u32]
+    requires { g.first + g.loops ≤ length lens.now }
+    ensures count { length result.now ≡ g.loops }
+    ensures each { (l : ℕ) → l < g.loops → get_or result.now l 0 ≡ size_of lens.now g l }
+{
+    let first = g.first;
+    let end = first + g.loops;
+    &lens[first..end]
+}
+
 // Whether p is inside an island.
 fn in_island(vs: &[f64], lens: &[u32], g: Region, p: Vec2) -> bool
     requires { Held vs.now lens.now g }
     ensures { result ≡ in_island vs.now lens.now g p }
 {
-    let first = g.first;
-    let start = g.at;
-    let mut at = start + size(lens, first);
-    for l in 1..g.loops {
-        let n = size(lens, first + l);
+    let loops = sizes(lens, g);
+    let mut at = g.at + loops[0] as usize;
+    for n in &loops[1..] {
+        let n = *n as usize;
         if point_in_loop(vs, at, n, p) {
             return true;
         }

@@ -1,10 +1,9 @@
 // The distance of a point from a segment, and whether a region's boundary passes within r of it.
 ghost use Rattle.std.specs.Prelude.{◌≡◌, ◌+◌, ◌*◌, ◌≤◌, ◌<◌, length};
-ghost use Rattle.numbers.specs.Bound.{Bounds};
 ghost use Rattle.geom.specs.Region.{after, Held};
 ghost use Rattle.geom.specs.Segment.{along, seg_square, seg_distance, edge_within, loop_within, any_within};
 
-use super::region::{Region, size, vertex};
+use super::region::{Region, sizes, vertex};
 use super::vec2::Vec2;
 use numbers::bound::Bound;
 
@@ -43,42 +42,37 @@ pub fn next(n: usize, i: usize) -> usize
     if i + 1 == n { 0 } else { i + 1 }
 }
 
-// Whether the edge passes within r of p, whose bound is given: no root is taken.
-fn edge_within(vs: &[f64], at: usize, n: usize, i: usize, p: Vec2, r: f64, bound: Bound) -> bool
-    requires n_in_bounds { (2 * (at + n) ≤ length vs.now) × (i < n) }
-    requires bounds { Bounds r bound }
-    ensures { result ≡ edge_within vs.now at n p r i }
+// Whether the edge passes within r of p: where r has a bound, no root is taken.
+fn edge_within(vs: &[f64], at: usize, n: usize, i: usize, p: Vec2, r: Bound) -> bool
+    requires { (2 * (at + n) ≤ length vs.now) × (i < n) }
+    ensures { result ≡ edge_within vs.now at n p r.r i }
 {
     let a = vertex(vs, at + i);
     let b = vertex(vs, at + next(n, i));
-    numbers::bound::root_below(seg_square(p, a, b), r, bound)
+    r.root_below(seg_square(p, a, b))
 }
 
-fn loop_within(vs: &[f64], at: usize, n: usize, p: Vec2, r: f64, bound: Bound) -> bool
-    requires n_in_bounds { 2 * (at + n) ≤ length vs.now }
-    requires bounds { Bounds r bound }
-    ensures { result ≡ loop_within vs.now at n p r }
+fn loop_within(vs: &[f64], at: usize, n: usize, p: Vec2, r: Bound) -> bool
+    requires { 2 * (at + n) ≤ length vs.now }
+    ensures { result ≡ loop_within vs.now at n p r.r }
 {
     for i in 0..n {
-        if edge_within(vs, at, n, i, p, r, bound) {
+        if edge_within(vs, at, n, i, p, r) {
             return true;
         }
     }
     false
 }
 
-// Whether some edge of the region passes within r of p. The bound of r is worked out once by the caller.
-pub fn any_within(vs: &[f64], lens: &[u32], g: Region, p: Vec2, r: f64, bound: Bound) -> bool
-    requires held { Held vs.now lens.now g }
-    requires bounds { Bounds r bound }
-    ensures { result ≡ any_within vs.now lens.now g p r }
+// Whether some edge of the region passes within r of p.
+pub fn any_within(vs: &[f64], lens: &[u32], g: Region, p: Vec2, r: Bound) -> bool
+    requires { Held vs.now lens.now g }
+    ensures { result ≡ any_within vs.now lens.now g p r.r }
 {
-    let first = g.first;
-    let start = g.at;
-    let mut at = start;
-    for l in 0..g.loops {
-        let n = size(lens, first + l);
-        if loop_within(vs, at, n, p, r, bound) {
+    let mut at = g.at;
+    for n in sizes(lens, g) {
+        let n = *n as usize;
+        if loop_within(vs, at, n, p, r) {
             return true;
         }
         at += n;

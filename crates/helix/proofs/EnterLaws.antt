@@ -1,17 +1,15 @@
 -- For the proofs of `enter`: the refusal of one chunk, the helix listed, and the bytes. Assumes nothing.
 use mathlib.Core.Path.{◌≡◌, refl, sym, ap, ◌∙◌, subst}
-use mathlib.Core.Bool.{Bool, true, false, cond}
-use mathlib.Core.List.{List, [], ◌∷◌, ◌++◌}
-use Prim.Native.Nat.{ℕ, ◌+◌, ◌-◌, ◌*◌, ◌/◌, ◌≤◌, ◌<◌}
+use mathlib.Core.List.{List, [], ◌∷◌}
+use Prim.Native.Nat.{ℕ, ◌+◌, ◌-◌, ◌*◌, ◌/◌, ◌≤◌}
 use native.Mathlib.Omega.{arith}
 use lib.ListN.{length, take, drop}
-use lib.Dec.{eqb}
 use lib.Ieee.{Float, binary64, add}
-use borrow.Author.Tests.{lt-ltb, le-ltb, eq-eqb, ne_eqb, eqb-true}
 use borrow.Rule.Slice.PartMut.{put_mid}
+use Rattle.std.specs.Prelude.{Some, None}
+use Rattle.std.specs.Prelude.{Result, Ok, Err}
 use Rattle.loops.specs.Regions.{Fits, within}
 use Rattle.loops.specs.Frame.{Only}
-use Rattle.loops.proofs.Cases.{by_test}
 use Rattle.loops.proofs.RegionLaws.{region-long}
 use Rattle.loops.proofs.FrameLaws.{back-only, only_same, put_only}
 use Rattle.geom.specs.declared.vec2.Vec2.{Vec2}
@@ -26,37 +24,19 @@ use Rattle.setup.proofs.PartLaws.{part_is, run_long, back_is, put-run-long}
 use Rattle.links.specs.Path.{wall_in}
 use Rattle.events.specs.Chunk.{helix}
 use Rattle.events.specs.Replay.{helix_end}
-use Rattle.events.specs.Events.{Event, entered}
+use Rattle.events.specs.Events.{Event}
 use Rattle.events.specs.Lent.{triple_at, row_at, set_row, set_triple}
 use Rattle.events.proofs.ShiftLaws.{set3-long}
-use Rattle.passes.specs.declared.start.Place.TheVariants.{At}
-use Rattle.cutting.specs.Listing.{needs, refusal_of}
+use Rattle.cutting.specs.Listing.{needs, room_of}
 use Rattle.cutting.specs.Piece.{sta, Listed}
 use Rattle.cutting.specs.declared.piece.State.{State}
-use Rattle.cutting.proofs.RefusalLaws.{refusal_none}
+use Rattle.cutting.specs.declared.listing.Full.{Full}
+use Rattle.cutting.proofs.RoomLaws.{room-fits}
 use Rattle.workspace.specs.Standing.{reach_in, abandoned_in, abandoned_put, Standing, CellsKept}
 use Rattle.workspace.proofs.StandingLaws.{standing-walls}
-use Rattle.helix.specs.Search.{Sought, seek_of}
-use Rattle.helix.specs.Enter.{Left, lf, WithEvents, with_events, bored_of, listed_of, after_search, helix_of, Settled}
-use Rattle.helix.specs.declared.search.Found.{Found}
-use Rattle.helix.specs.declared.search.Found.TheVariants.{Helix, Nothing}
-use Rattle.helix.specs.declared.enter.Entered.{Entered}
-use Rattle.helix.specs.declared.enter.Entered.TheVariants.{Bored, NoRoom, Refused}
+use Rattle.helix.specs.Search.{Found, Sought, seek_of}
+use Rattle.helix.specs.Enter.{Entered, Left, lf, WithEvents, bored_of, listed_where, listed_of, after_search, helix_of, Settled}
 use Rattle.helix.proofs.SearchLaws.{seek_long}
-
--- ---- one chunk of one triple
-
-pub no_triple : (t r : ℕ) → t < 1 → 16 ≡ refusal_of t r (1 ∷ [])
-unfolding refusal_of
-no_triple t r a = rw (lt-ltb t 1 a) refl
-
-pub no_row : (t r : ℕ) → 1 ≤ t → r ≡ 0 → 17 ≡ refusal_of t r (1 ∷ [])
-unfolding refusal_of
-no_row t r a b = rw (le-ltb t 1 a, eq-eqb r 0 b) refl
-
-pub one-fits : (t r : ℕ) → 1 ≤ t → (r ≡ 0 → ⊥) → 0 ≡ refusal_of t r (1 ∷ [])
-unfolding refusal_of
-one-fits t r a b = rw (le-ltb t 1 a, ne_eqb r 0 b) refl
 
 -- ---- what is left alone
 
@@ -111,51 +91,49 @@ left_eq {g = g} M R O A = λ i. lf (M i) g (R i) (O i) (A i)
 
 -- which events come before does not count for what is left
 pub listed_same : (s : Setup) (t : State) (m gone rows : List ℕ) (o : List Float) (c : Vec2) (rad : Float) (n : ℕ) (es : List Event) → (listed_of s t m gone rows o c rad n []).left ≡ (listed_of s t m gone rows o c rad n es).left
-unfolding listed_of
-listed_same s t m gone rows o c rad n es = same (eqb (refusal_of (length o / 3 - t.triples) (length rows / 3 - t.rows) (needs (helix c rad ∷ []))) 0) _ _ _ _ _ _
+unfolding listed_of listed_where
+listed_same s t m gone rows o c rad n es = same (room_of (length o / 3 - t.triples) (length rows / 3 - t.rows) (needs (helix c rad ∷ [])))
   where
-    same : (q : Bool) (l l' : Left) (a b c d : List Event) → (cond q (with_events l a) (with_events l' b)).left ≡ (cond q (with_events l c) (with_events l' d)).left
-    same true l l' a b c d = refl
-    same false l l' a b c d = refl
+    same : (r : Result Unit Full) → (listed_where s t m gone rows o r c rad n []).left ≡ (listed_where s t m gone rows o r c rad n es).left
+    same (Ok u) = refl
+    same (Err f) = refl
 
 module _ (s : Setup) (t : State) (b : List ℕ) (o : List Float) (rows : List ℕ) (c : Vec2) (rad : Float) (n size : ℕ) (h : 8 * size ≤ length b)
-    (no : ℕ) (N : no ≡ refusal_of (length o / 3 - t.triples) (length rows / 3 - t.rows) (1 ∷ [])) where
+    (no : Result Unit Full) (N : no ≡ room_of (length o / 3 - t.triples) (length rows / 3 - t.rows) (1 ∷ [])) where
   abbrev left : Left
   left = (listed_of s t (run 0 size b) (run 3 size b) rows o c rad n []).left
 
-  abbrev whole : WithEvents
-  whole = with_events (bored_of s t (run 0 size b) (run 3 size b) rows o c rad n) ([] ++ (entered c rad ∷ []))
-
-  abbrev refused : ℕ → WithEvents
-  refused k = with_events (lf (run 0 size b) (run 3 size b) rows o (Refused k)) []
-
-  left_is : (q : Bool) → eqb no 0 ≡ q → left ≡ (cond q whole (refused no)).left
+  left_is : left ≡ (listed_where s t (run 0 size b) (run 3 size b) rows o no c rad n []).left
   unfolding listed_of
-  left_is q e = ap (λ (k : ℕ). (cond (eqb k 0) whole (refused k)).left) (sym N) ∙ ap (λ (z : Bool). (cond z whole (refused no)).left) e
+  left_is = ap (λ (r : Result Unit Full). (listed_where s t (run 0 size b) (run 3 size b) rows o r c rad n []).left) (sym N)
 
-  pub bore_refused : (no ≡ 0 → ⊥) → (lf (run 0 size b) (run 3 size b) rows o (Refused no) ≡ left) × Only (0 * size) (0 * size + size) b b
-  bore_refused z = (sym (left_is false (ne_eqb no 0 z)), map_same size b h)
+  where_is : (r : Result Unit Full) → no ≡ r → (listed_where s t (run 0 size b) (run 3 size b) rows o r c rad n []).left ≡ left
+  where_is r e = ap (λ (x : Result Unit Full). (listed_where s t (run 0 size b) (run 3 size b) rows o x c rad n []).left) (sym e) ∙ sym left_is
 
-  module _ (z : no ≡ 0) where
+  pub bore_refused : (f : Full) → no ≡ Err f → (lf (run 0 size b) (run 3 size b) rows o (Err f) ≡ left) × Only (0 * size) (0 * size + size) b b
+  unfolding listed_where
+  bore_refused f e = (where_is (Err f) e, map_same size b h)
+
+  module _ (u : Unit) (z : no ≡ Ok u) where
     pub bore_fits : Listed rows o t 0 → ((t.triples + 1) * 3 ≤ length o) × ((t.rows + 1) * 3 ≤ length rows)
     bore_fits L =
-        let f = refusal_none (length o / 3 - t.triples) (length rows / 3 - t.rows) 0 1 (sym N ∙ z) in
+        let f = room-fits (length o / 3 - t.triples) (length rows / 3 - t.rows) 0 1 (sym N ∙ z) in
         (omega (arith, f.0, L.fit_triples), omega (arith, f.1, L.fit_rows))
 
     pub bore_listed : (r : List ℕ) (k : ℕ) → cl r k ≡ clear_disk s.grid c (add binary64 rad s.r) (take (size - 0) (drop 0 b)) → (o' : List Float) → o' ≡ set_triple t.triples (triple_at c rad) o
         → (rows' : List ℕ) → rows' ≡ set_row t.rows (row_at t.triples (helix c rad)) rows → (p : Vec2) → p ≡ helix_end c rad
         → let b' = put_mid 0 (size - 0) b r in
-        (lf (run 0 size b') (run 3 size b') rows' o' (Bored (sta (At p) (t.rows + 1) (t.triples + 1) t.planned_max t.work) n) ≡ left) × Only (0 * size) (0 * size + size) b b'
-    unfolding bored_of
+        (lf (run 0 size b') (run 3 size b') rows' o' (Ok (Some (sta (Some p) (t.rows + 1) (t.triples + 1) t.planned_max t.work), n)) ≡ left) × Only (0 * size) (0 * size + size) b b'
+    unfolding bored_of listed_where
     bore_listed r k R o' O rows' Q p P =
         let m : List ℕ = (clear_disk s.grid c (add binary64 rad s.r) (run 0 size b)).cells in
         let is : r ≡ m = ap (λ (x : Cleared). x.cells) R ∙ ap (λ (x : List ℕ). (clear_disk s.grid c (add binary64 rad s.r) x).cells) (part_is 0 size 0 size b (omega arith) (omega arith)) in
         let long : length m ≡ size = (clear-disk-left s.grid c (add binary64 rad s.r) (run 0 size b)).long ∙ run_long 0 size b (omega arith) in
         let put : put_mid 0 (size - 0) b r ≡ put_run 0 size m b = back_is 0 size 0 size b r (omega arith) (omega arith) (omega arith) ∙ ap (λ (x : List ℕ). put_run 0 size x b) is in (
-          ap (λ (x : List ℕ). lf (run 0 size (put_mid 0 (size - 0) b r)) x rows' o' (Bored (sta (At p) (t.rows + 1) (t.triples + 1) t.planned_max t.work) n))
+          ap (λ (x : List ℕ). lf (run 0 size (put_mid 0 (size - 0) b r)) x rows' o' (Ok (Some (sta (Some p) (t.rows + 1) (t.triples + 1) t.planned_max t.work), n)))
               (ap (run 3 size) put ∙ run_other size b m long 0 3 (omega arith) (λ z. omega arith))
-              ∙ left_eq (ap (run 0 size) put ∙ run-put size b m long 0 (omega arith)) Q O (ap (λ (x : Vec2). Bored (sta (At x) (t.rows + 1) (t.triples + 1) t.planned_max t.work) n) P)
-              ∙ sym (left_is true (eq-eqb no 0 z)),
+              ∙ left_eq (ap (run 0 size) put ∙ run-put size b m long 0 (omega arith)) Q O (ap (λ (x : Vec2). Ok (Some (sta (Some x) (t.rows + 1) (t.triples + 1) t.planned_max t.work), n)) P)
+              ∙ where_is (Ok u) z,
           subst (Only (0 * size) (0 * size + size) b) (sym put) (put_only (0 * size) (0 * size + size) b (fits size b h) m (omega (arith, long))),
         )
 
@@ -210,52 +188,54 @@ module _ (s : Setup) (t : State) (vs : List Float) (lens : List ℕ) (pref : Flo
       heap_only : Only (6 * cells) (15 * cells) u u₁
       heap_only = subst (λ (z : ℕ). Only z (15 * cells) u u₁) (let z : heap ≡ 6 * cells = omega arith in z) (subst (λ (z : ℕ). Only heap z u u₁) E (back-only heap end u heap_place r R))
 
-      pub enter_none : (k : ℕ) → f ≡ Nothing k → (lf (run 0 cells b₁) (run 3 cells b₁) rows o (NoRoom k) ≡ answered) × (Settled cells b b₁ × Only (6 * cells) (15 * cells) u u₁)
+      pub enter_none : f.0 ≡ None → (lf (run 0 cells b₁) (run 3 cells b₁) rows o (Ok (None, f.1)) ≡ answered) × (Settled cells b b₁ × Only (6 * cells) (15 * cells) u u₁)
       unfolding after_search
-      enter_none k e = (
-        sym (answered_by ∙ ap (λ (x : Found). (after_search s t (run 0 cells b₁) (run 3 cells b₁) rows o x sought.events).left) e),
+      enter_none e = (
+        sym (answered_by ∙ (λ i. (after_search s t (run 0 cells b₁) (run 3 cells b₁) rows o (e i, f.1) sought.events).left)),
         (settled_both cells b H.bytes sought.gone gone_long b₁ B b₁ (map_same cells b₁ long₁), heap_only),
       )
 
-      pub enter_bored : (c : Vec2) (rad : Float) (k : ℕ) → f ≡ Helix c rad k → (b₂ rows' : List ℕ) (o' : List Float) (a : Entered)
-          → lf (run 0 cells b₂) (run 3 cells b₂) rows' o' a ≡ (listed_of s t (run 0 cells b₁) (run 3 cells b₁) rows o c rad k []).left → Only (0 * cells) (0 * cells + cells) b₁ b₂
+      pub enter_bored : (x : Vec2 × Float) → f.0 ≡ Some x → (b₂ rows' : List ℕ) (o' : List Float) (a : Entered)
+          → lf (run 0 cells b₂) (run 3 cells b₂) rows' o' a ≡ (listed_of s t (run 0 cells b₁) (run 3 cells b₁) rows o x.0 x.1 f.1 []).left → Only (0 * cells) (0 * cells + cells) b₁ b₂
           → (lf (run 0 cells b₂) (run 3 cells b₂) rows' o' a ≡ answered) × (Settled cells b b₂ × Only (6 * cells) (15 * cells) u u₁)
       unfolding after_search
-      enter_bored c rad k e b₂ rows' o' a A O = (
-        A ∙ listed_same s t (run 0 cells b₁) (run 3 cells b₁) rows o c rad k sought.events
-            ∙ sym (answered_by ∙ ap (λ (x : Found). (after_search s t (run 0 cells b₁) (run 3 cells b₁) rows o x sought.events).left) e),
+      enter_bored (c, rad) e b₂ rows' o' a A O = (
+        A ∙ listed_same s t (run 0 cells b₁) (run 3 cells b₁) rows o c rad f.1 sought.events
+            ∙ sym (answered_by ∙ (λ i. (after_search s t (run 0 cells b₁) (run 3 cells b₁) rows o (e i, f.1) sought.events).left)),
         (settled_both cells b H.bytes sought.gone gone_long b₁ B b₂ O, heap_only),
       )
 
 -- ---- for callers: what is listed lies in rows and triples again
 
 abbrev pub ListedAfter : State → List ℕ → List Float → Entered → Type 0
-ListedAfter t rows o (Bored t' n) = Listed rows o t' 0
-ListedAfter t rows o (NoRoom n) = Listed rows o t 0
-ListedAfter t rows o (Refused k) = Unit {0}
+ListedAfter t rows o (Ok (Some t', n)) = Listed rows o t' 0
+ListedAfter t rows o (Ok (None, n)) = Listed rows o t 0
+ListedAfter t rows o (Err f) = Unit {0}
 
 module _ (s : Setup) (t : State) (m gone rows : List ℕ) (o : List Float) (L : Listed rows o t 0) where
   abbrev Lies : WithEvents → Type 0
   Lies q = ListedAfter t q.left.rows q.left.out q.left.answer
 
   bored-listed : (c : Vec2) (rad : Float) (n : ℕ) (es : List Event) → Lies (listed_of s t m gone rows o c rad n es)
-  unfolding listed_of bored_of
-  bored-listed c rad n es =
-      by_test Lies (eqb (refusal_of (length o / 3 - t.triples) (length rows / 3 - t.rows) (needs (helix c rad ∷ []))) 0) _ _
-      (λ z. let f = refusal_none (length o / 3 - t.triples) (length rows / 3 - t.rows) 0 1 (eqb-true _ 0 z) in
-      let r = set3-long rows (t.rows * 3) 1 t.triples 1 in
-      let k = set3-long o (t.triples * 3) c.x c.y rad in
-      record {
-        countable = record { few-rows = omega (arith, r, L.countable.few-rows); few-triples = omega (arith, k, L.countable.few-triples) };
-        fit_rows = omega (arith, r, f.1);
-        fit_triples = omega (arith, k, f.0);
-      })
-      (λ z. tt)
+  unfolding listed_of listed_where bored_of
+  bored-listed c rad n es = where_listed (room_of (length o / 3 - t.triples) (length rows / 3 - t.rows) (needs (helix c rad ∷ []))) refl
+    where
+      where_listed : (r : Result Unit Full) → room_of (length o / 3 - t.triples) (length rows / 3 - t.rows) (needs (helix c rad ∷ [])) ≡ r → Lies (listed_where s t m gone rows o r c rad n es)
+      where_listed (Ok u) z =
+          let f = room-fits (length o / 3 - t.triples) (length rows / 3 - t.rows) 0 1 z in
+          let r = set3-long rows (t.rows * 3) 1 t.triples 1 in
+          let k = set3-long o (t.triples * 3) c.x c.y rad in
+          record {
+            countable = record { few-rows = omega (arith, r, L.countable.few-rows); few-triples = omega (arith, k, L.countable.few-triples) };
+            fit_rows = omega (arith, r, f.1);
+            fit_triples = omega (arith, k, f.0);
+          }
+      where_listed (Err f) z = tt
 
   found-listed : (f : Found) (es : List Event) → Lies (after_search s t m gone rows o f es)
   unfolding after_search
-  found-listed (Nothing n) es = L
-  found-listed (Helix c rad n) es = bored-listed c rad n es
+  found-listed (None, n) es = L
+  found-listed (Some (c, rad), n) es = bored-listed c rad n es
 
 pub helix-listed : (s : Setup) (wall vs : List Float) (lens allowed reach : List ℕ) (pref : Float) (t : State) (m gone rows : List ℕ) (o : List Float) → Listed rows o t 0
     → let l = (helix_of s wall vs lens allowed reach pref t m gone rows o).left in ListedAfter t l.rows l.out l.answer

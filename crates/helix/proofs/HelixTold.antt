@@ -5,11 +5,8 @@ use mathlib.Core.Option.{Option, none, some}
 use Prim.Native.Nat.{ℕ, ◌+◌, ◌-◌, ◌*◌, ◌/◌, ◌≤◌}
 use native.Mathlib.Omega.{arith}
 use lib.ListN.{length, length-append}
-use lib.Dec.{eqb}
 use lib.Ieee.{Float, binary64, add}
-use borrow.Author.Tests.{eqb-true}
 use Rattle.loops.specs.Loop.{Run, on, out, turn}
-use Rattle.loops.proofs.Cases.{by_test}
 use Rattle.loops.proofs.LoopLaws.{loop_both}
 use Rattle.geom.specs.declared.vec2.Vec2.{Vec2}
 use Rattle.raster.specs.Stock.{clear_disk}
@@ -30,19 +27,17 @@ use Rattle.events.proofs.FollowLaws.{followed_append}
 use Rattle.events.proofs.LentLaws.{triples_more, holds_move}
 use Rattle.events.proofs.ShiftLaws.{set3-long}
 use Rattle.passes.specs.Tried.{job_at}
-use Rattle.passes.specs.declared.start.Place.TheVariants.{At}
-use Rattle.cutting.specs.Listing.{needs, refusal_of}
+use Rattle.cutting.specs.Listing.{needs, room_of}
 use Rattle.cutting.specs.Piece.{sta}
+use Rattle.std.specs.Prelude.{Some, None}
+use Rattle.std.specs.Prelude.{Result, Ok, Err}
+use Rattle.cutting.specs.declared.listing.Full.{Full}
 use Rattle.cutting.specs.declared.piece.State.{State as Plan}
-use Rattle.cutting.proofs.RefusalLaws.{refusal_none}
+use Rattle.cutting.proofs.RoomLaws.{room-fits}
 use Rattle.cutting.proofs.CutTold.{Planned, Agrees}
-use Rattle.helix.specs.Search.{place_of, abandon_of, entry_of, radius_at, Seeking, Sought, sk, sought_end, fitting, attempt_at, attempt_of, step_by, seek_step, seek_of}
-use Rattle.helix.specs.Enter.{lf, WithEvents, with_events, bored_of, listed_of, after_search, helix_of}
+use Rattle.helix.specs.Search.{Found, place_of, abandon_of, entry_of, radius_at, Seeking, Sought, sk, sought_end, fitting, attempt_at, attempt_of, step_by, seek_step, seek_of}
+use Rattle.helix.specs.Enter.{Entered, lf, WithEvents, with_events, bored_of, listed_where, listed_of, after_search, helix_of}
 use Rattle.helix.specs.declared.search.Attempt.{Attempt}
-use Rattle.helix.specs.declared.search.Found.{Found}
-use Rattle.helix.specs.declared.search.Found.TheVariants.{Helix, Nothing}
-use Rattle.helix.specs.declared.enter.Entered.{Entered}
-use Rattle.helix.specs.declared.enter.Entered.TheVariants.{Bored, NoRoom, Refused}
 use Rattle.helix.proofs.RadiusLaws.{radius-same}
 use Rattle.helix.proofs.SearchLaws.{seek_long}
 
@@ -134,7 +129,7 @@ module _ (j : Job) (es : List Event) (m gone l rows : List ℕ) (o : List Float)
       triple_more : length (all_triples (e.rows ++ (helix c rad ∷ []))) ≡ t.triples + 1
       triple_more = ap length (triples_more e.rows (helix c rad)) ∙ length-append (all_triples e.rows) (triple_at c rad ∷ []) ∙ ap (λ (k : ℕ). k + 1) A.triples
 
-      pub agrees_entered : Agrees (after j (es ++ (entered c rad ∷ []))) (sta (At (helix_end c rad)) (t.rows + 1) (t.triples + 1) t.planned_max t.work)
+      pub agrees_entered : Agrees (after j (es ++ (entered c rad ∷ []))) (sta (Some (helix_end c rad)) (t.rows + 1) (t.triples + 1) t.planned_max t.work)
       unfolding step
       agrees_entered =
           let x = after_one (entered c rad) in
@@ -174,16 +169,16 @@ sofar_more j es fs m gone l rows o t n h c p = record {
 
 -- how many places were given up before
 abbrev places_of : Found → ℕ
-places_of (Nothing n) = n
-places_of (Helix c rad n) = n
+places_of (None, n) = n
+places_of (Some (c, rad), n) = n
 
 module _ (s : Setup) (wall vs : List Float) (lens start allowed reach : List ℕ) (limit pref : Float) where
   abbrev job : Job
   job = job_at s wall vs lens start limit (entry_of s wall allowed reach pref)
 
   abbrev FoundIs : List ℕ → List ℕ → Found → Type 0
-  FoundIs m gone (Nothing n) = Unit
-  FoundIs m gone (Helix c rad n) = PlaceIs job m gone c (some rad)
+  FoundIs m gone (None, n) = Unit
+  FoundIs m gone (Some (c, rad), n) = PlaceIs job m gone c (some rad)
 
   module _ (es : List Event) (m l rows : List ℕ) (o : List Float) (t : Plan) where
     abbrev Kept : ℕ → Run Seeking Sought → Type 0
@@ -236,9 +231,9 @@ module _ (s : Setup) (wall vs : List Float) (lens start allowed reach : List ℕ
 -- what planning holds by value is so in the state e, and so many places were given up: `before` the search, and by it those that the answer tells. A refusal ends
 -- the plan
 abbrev pub Answers : State → Plan → ℕ → ℕ → Entered → Type 0
-Answers e t before places (Bored t' n) = Agrees e t' × (places ≡ before + n)
-Answers e t before places (NoRoom n) = Agrees e t × (places ≡ before + n)
-Answers e t before places (Refused k) = Unit {0}
+Answers e t before places (Ok (Some t', n)) = Agrees e t' × (places ≡ before + n)
+Answers e t before places (Ok (None, n)) = Agrees e t × (places ≡ before + n)
+Answers e t before places (Err f) = Unit {0}
 
 -- q came of the map m, the cells given up, rows and triples after the events es
 pub record HelixTold (j : Job) (es : List Event) (m gone l rows : List ℕ) (o : List Float) (t : Plan) (q : WithEvents) : Type 0 where
@@ -279,40 +274,42 @@ module _ (s : Setup) (wall vs : List Float) (lens start allowed reach : List ℕ
     }
 
     listed-told : (c : Vec2) (rad : Float) → PlaceIs the_job m now c (some rad) → Tells (listed_of s t m now rows o c rad n fs)
-    unfolding listed_of bored_of
-    listed-told c rad p =
-        by_test Tells (eqb (refusal_of (length o / 3 - t.triples) (length rows / 3 - t.rows) (needs (helix c rad ∷ []))) 0) _ _
-        (λ z. let f = refusal_none (length o / 3 - t.triples) (length rows / 3 - t.rows) 0 1 (eqb-true _ 0 z) in
-        let a : (t.rows + 1) * 3 ≤ length rows = omega (arith, f.1) in
-        let b : (t.triples + 1) * 3 ≤ length o = omega (arith, f.0) in
-        let x : (es ++ fs) ++ (entered c rad ∷ []) ≡ es ++ (fs ++ (entered c rad ∷ [])) = append_assoc es fs (entered c rad ∷ []) in
-        let map : List ℕ = (clear_disk s.grid c (add binary64 rad s.r) m).cells in
-        let rows' : List ℕ = set_row t.rows (row_at t.triples (helix c rad)) rows in
-        let o' : List Float = set_triple t.triples (triple_at c rad) o in
-        let t' : Plan = sta (At (helix_end c rad)) (t.rows + 1) (t.triples + 1) t.planned_max t.work in
-        let P = subst (λ (w : List Event). Planned the_job w map now l rows' o') x (planned_entered the_job (es ++ fs) m now l rows o h.planned t h.agrees c rad p a b) in
-        record {
-          planned = P;
-          claim = demand3 the_job F (es ++ (fs ++ (entered c rad ∷ []))) P.legal;
-          answers = (
-            subst (λ (w : List Event). Agrees (after the_job w) t') x (agrees_entered the_job (es ++ fs) m now l rows o h.planned t h.agrees c rad p a b),
-            ap (events_of 5) (sym x) ∙ events-append 5 (es ++ fs) (entered c rad ∷ [])
-                ∙ (let u : events_of 5 (es ++ fs) + events_of 5 (entered c rad ∷ []) ≡ events_of 5 es + n = omega (arith, no-gone c rad, places_are) in u),
-          );
-          map-long = (clear-disk-left s.grid c (add binary64 rad s.r) m).long;
-          gone_long = long;
-          rows_long = set3-long rows (t.rows * 3) 1 t.triples 1;
-          out-long = set3-long o (t.triples * 3) c.x c.y rad;
-        })
-        (λ z. still (Refused _) tt)
+    unfolding listed_of listed_where bored_of
+    listed-told c rad p = where-told (room_of (length o / 3 - t.triples) (length rows / 3 - t.rows) (needs (helix c rad ∷ []))) refl
+      where
+        where-told : (r : Result Unit Full) → room_of (length o / 3 - t.triples) (length rows / 3 - t.rows) (needs (helix c rad ∷ [])) ≡ r → Tells (listed_where s t m now rows o r c rad n fs)
+        where-told (Ok u) z =
+            let f = room-fits (length o / 3 - t.triples) (length rows / 3 - t.rows) 0 1 z in
+            let a : (t.rows + 1) * 3 ≤ length rows = omega (arith, f.1) in
+            let b : (t.triples + 1) * 3 ≤ length o = omega (arith, f.0) in
+            let x : (es ++ fs) ++ (entered c rad ∷ []) ≡ es ++ (fs ++ (entered c rad ∷ [])) = append_assoc es fs (entered c rad ∷ []) in
+            let map : List ℕ = (clear_disk s.grid c (add binary64 rad s.r) m).cells in
+            let rows' : List ℕ = set_row t.rows (row_at t.triples (helix c rad)) rows in
+            let o' : List Float = set_triple t.triples (triple_at c rad) o in
+            let t' : Plan = sta (Some (helix_end c rad)) (t.rows + 1) (t.triples + 1) t.planned_max t.work in
+            let P = subst (λ (w : List Event). Planned the_job w map now l rows' o') x (planned_entered the_job (es ++ fs) m now l rows o h.planned t h.agrees c rad p a b) in
+            record {
+              planned = P;
+              claim = demand3 the_job F (es ++ (fs ++ (entered c rad ∷ []))) P.legal;
+              answers = (
+                subst (λ (w : List Event). Agrees (after the_job w) t') x (agrees_entered the_job (es ++ fs) m now l rows o h.planned t h.agrees c rad p a b),
+                ap (events_of 5) (sym x) ∙ events-append 5 (es ++ fs) (entered c rad ∷ [])
+                    ∙ (let u : events_of 5 (es ++ fs) + events_of 5 (entered c rad ∷ []) ≡ events_of 5 es + n = omega (arith, no-gone c rad, places_are) in u),
+              );
+              map-long = (clear-disk-left s.grid c (add binary64 rad s.r) m).long;
+              gone_long = long;
+              rows_long = set3-long rows (t.rows * 3) 1 t.triples 1;
+              out-long = set3-long o (t.triples * 3) c.x c.y rad;
+            }
+        where-told (Err f) z = still (Err f) tt
 
   found-told : Fit the_job → (es : List Event) (m gone l rows : List ℕ) (o : List Float) (t : Plan) (q : Sought) → length q.gone ≡ length gone → SoughtKept s wall vs lens start allowed reach limit pref es m l rows o t q
       → (f : Found) → q.found ≡ f → HelixTold the_job es m gone l rows o t (after_search s t m q.gone rows o f q.events)
   unfolding after_search
-  found-told F es m gone l rows o t q long h (Nothing n) e =
+  found-told F es m gone l rows o t q long h (None, n) e =
       let k = subst (λ (x : Found). Sofar the_job es q.events m q.gone l rows o t (places_of x)) e h.0 in
-      still F es m gone l rows o t q.events q.gone long n k (NoRoom n) (k.agrees, places_are F es m gone l rows o t q.events q.gone long n k)
-  found-told F es m gone l rows o t q long h (Helix c rad n) e =
+      still F es m gone l rows o t q.events q.gone long n k (Ok (None, n)) (k.agrees, places_are F es m gone l rows o t q.events q.gone long n k)
+  found-told F es m gone l rows o t q long h (Some (c, rad), n) e =
       listed-told F es m gone l rows o t q.events q.gone long n (subst (λ (x : Found). Sofar the_job es q.events m q.gone l rows o t (places_of x)) e h.0) c rad
       (subst (FoundIs s wall vs lens start allowed reach limit pref m q.gone) e h.1)
 

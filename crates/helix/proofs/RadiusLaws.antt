@@ -5,6 +5,7 @@ use mathlib.Core.List.{List}
 use mathlib.Core.Option.{Option, none, some}
 use Prim.Native.Nat.{ℕ, ◌+◌, ◌≤◌, ◌<◌}
 use lib.Ieee.{Float, binary64, mul, div, le}
+use Rattle.std.specs.Prelude.{Some, None}
 use Rattle.loops.specs.Loop.{loop, Run, on, out, turn, any}
 use Rattle.loops.proofs.LoopLaws.{Going, going_end, going_out, going_on}
 use Rattle.numbers.specs.Cast.{float}
@@ -18,7 +19,6 @@ use Rattle.events.specs.Replay.{rim_point}
 use Rattle.events.specs.Helix.{c80, rim_blocked, shrink, shrunk, radius_of}
 use Rattle.passes.specs.Tried.{job_at}
 use Rattle.helix.specs.Search.{least_of, bare_job, radius_at, radius_by}
-use Rattle.helix.specs.declared.radius.Radius.TheVariants.{Of, Nothing}
 
 pub rim-is : (c : Vec2) (rad : Float) (k : ℕ) (f g : Float) (v w p : Vec2) → f ≡ float k → g ≡ float 36 → v ≡ from_angle (div binary64 (mul binary64 tau f) g) → w ≡ scaled v rad → p ≡ sum c w → p ≡ rim_point c rad k
 unfolding rim_point
@@ -50,11 +50,11 @@ module _ (s : Setup) (wall vs : List Float) (lens : List ℕ) (c : Vec2) where
         flip true = refl
         flip false = refl
 
-    pub radius-none : le (least_of s) rad ≡ false → radius_by Nothing ≡ radius_at s wall vs lens c widest
+    pub radius-none : le (least_of s) rad ≡ false → radius_by None ≡ radius_at s wall vs lens c widest
     unfolding radius_of shrunk
     radius-none t = sym (ap (shrunk job c) (going_out (shrink job c) 0 65 (on widest) rad k none G h (too_small t)))
 
-    pub radius-some : le (least_of s) rad ≡ true → (free : Bool) → free ≡ not (any (rim_blocked job c rad) 0 36) → free ≡ true → radius_by (Of rad) ≡ radius_at s wall vs lens c widest
+    pub radius-some : le (least_of s) rad ≡ true → (free : Bool) → free ≡ not (any (rim_blocked job c rad) 0 36) → free ≡ true → radius_by (Some rad) ≡ radius_at s wall vs lens c widest
     unfolding radius_of shrunk
     radius-some t free f e =
         sym (ap (shrunk job c) (going_out (shrink job c) 0 65 (on widest) rad k (some rad) G h (wide_enough t free f ∙ ap (λ (x : Bool). cond x (out (some rad)) (on (mul binary64 rad c80))) e)))
@@ -63,7 +63,7 @@ module _ (s : Setup) (wall vs : List Float) (lens : List ℕ) (c : Vec2) where
     radius_more t free f e =
         going_on (shrink job c) 0 65 (on widest) rad (mul binary64 rad c80) k G h (sym (wide_enough t free f ∙ ap (λ (x : Bool). cond x (out (some rad)) (on (mul binary64 rad c80))) e))
 
-  pub radius-end : (widest rad : Float) (k : ℕ) → Going (turn (shrink job c)) 0 65 (on widest) (on rad) k → 65 ≤ k → radius_by Nothing ≡ radius_at s wall vs lens c widest
+  pub radius-end : (widest rad : Float) (k : ℕ) → Going (turn (shrink job c)) 0 65 (on widest) (on rad) k → 65 ≤ k → radius_by None ≡ radius_at s wall vs lens c widest
   unfolding radius_of shrunk
   radius-end widest rad k G h = ap (shrunk job c) (going_end (turn (shrink job c)) 0 65 (on widest) (on rad) k G h)
 

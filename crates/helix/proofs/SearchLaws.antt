@@ -5,6 +5,7 @@ use Prim.Native.Nat.{ℕ, ◌+◌, ◌*◌, ◌/◌, ◌%◌, ◌≤◌, ◌<◌
 use native.Mathlib.Omega.{arith}
 use lib.ListN.{length}
 use lib.Ieee.{Float}
+use Rattle.std.specs.Prelude.{Option, Some, None}
 use Rattle.loops.specs.Loop.{Run, on, out, turn}
 use Rattle.loops.specs.Regions.{Fits}
 use Rattle.loops.specs.Frame.{Only}
@@ -12,7 +13,6 @@ use Rattle.loops.proofs.LoopLaws.{Going, going_none, going_end, going_out, going
 use Rattle.loops.proofs.FrameLaws.{only_same, only_more, only-before, put_only}
 use Rattle.geom.specs.declared.vec2.Vec2.{Vec2}
 use Rattle.raster.specs.Grid.{center_of}
-use Rattle.raster.specs.declared.grid.CellNo.{CellNo}
 use Rattle.setup.specs.Layout.{run, map_in, allowed_in}
 use Rattle.setup.specs.Place.{cells_of}
 use Rattle.setup.specs.declared.Setup.{Setup}
@@ -23,23 +23,18 @@ use Rattle.events.specs.Events.{Event, given_up}
 use Rattle.flood.specs.Place.{farthest_of}
 use Rattle.flood.specs.Flood.{flood_of}
 use Rattle.flood.specs.declared.place.Far.{Far}
-use Rattle.flood.specs.declared.place.Far.TheVariants.{Nothing as Nowhere, Cell}
 use Rattle.flood.proofs.FloodLaws.{flood_long}
-use Rattle.helix.specs.Search.{widest_of, far_of, spot_of, place_of, flood_at, abandon_of, radius_at, radius_by, Seeking, Sought, sk, so, sought_end, fitting, attempt_at, attempt_of, gone_by, step_by, seek_step, seek_of}
-use Rattle.helix.specs.declared.radius.Radius.{Radius}
-use Rattle.helix.specs.declared.radius.Radius.TheVariants.{Of, Nothing as NoRadius}
+use Rattle.helix.specs.Search.{Found, widest_of, far_of, spot_of, place_of, flood_at, abandon_of, radius_at, radius_by, Seeking, Sought, sk, so, sought_end, fitting, attempt_at, attempt_of, gone_by, step_by, seek_step, seek_of}
 use Rattle.helix.specs.declared.search.Attempt.{Attempt}
 use Rattle.helix.specs.declared.search.Attempt.TheVariants.{Fits as Fitted, GivenUp, Nothing as NoPlace}
-use Rattle.helix.specs.declared.search.Found.{Found}
-use Rattle.helix.specs.declared.search.Found.TheVariants.{Helix, Nothing}
 
 -- ---- lengths
 
 module _ (s : Setup) (wall : List Float) (allowed reach : List ℕ) (pref : Float) (n : ℕ) (m : List ℕ) where
-  flood_at-long : (far : Far) (gone : List ℕ) → length gone ≡ n → length (flood_at s wall allowed reach pref far m gone) ≡ n
+  flood_at-long : (far : Option Far) (gone : List ℕ) → length gone ≡ n → length (flood_at s wall allowed reach pref far m gone) ≡ n
   unfolding flood_at
-  flood_at-long Nowhere gone h = h
-  flood_at-long (Cell c d) gone h = flood_long s.grid m reach n c.0 gone h
+  flood_at-long None gone h = h
+  flood_at-long (Some f) gone h = flood_long s.grid m reach n f.cell.0 gone h
 
   pub abandon-long : (gone : List ℕ) → length gone ≡ n → length (abandon_of s wall allowed reach pref m gone) ≡ n
   unfolding abandon_of
@@ -72,7 +67,7 @@ module _ (s : Setup) (wall vs : List Float) (lens allowed reach : List ℕ) (pre
 
 -- ---- a place tried, in the bytes b
 
-module _ (s : Setup) (wall vs : List Float) (lens : List ℕ) (pref : Float) (b : List ℕ) (h : 8 * cells_of s ≤ length b) (far : Far)
+module _ (s : Setup) (wall vs : List Float) (lens : List ℕ) (pref : Float) (b : List ℕ) (h : 8 * cells_of s ≤ length b) (far : Option Far)
     (F : far ≡ farthest_of (map_in (cells_of s) b) (allowed_in (cells_of s) b) (reach_in (cells_of s) b) (abandoned_in (cells_of s) b) wall (cells_of s)) where
   abbrev n : ℕ
   n = cells_of s
@@ -85,34 +80,34 @@ module _ (s : Setup) (wall vs : List Float) (lens : List ℕ) (pref : Float) (b 
 
   tried_by : tried ≡ attempt_at s wall vs lens (allowed_in n b) (reach_in n b) pref (spot_of s wall (allowed_in n b) (reach_in n b) pref far)
   unfolding attempt_of place_of
-  tried_by = ap (λ (x : Far). attempt_at s wall vs lens (allowed_in n b) (reach_in n b) pref (spot_of s wall (allowed_in n b) (reach_in n b) pref x)) (sym F)
+  tried_by = ap (λ (x : Option Far). attempt_at s wall vs lens (allowed_in n b) (reach_in n b) pref (spot_of s wall (allowed_in n b) (reach_in n b) pref x)) (sym F)
 
-  pub no_place : far ≡ Nowhere → (NoPlace ≡ tried) × (b ≡ left NoPlace)
+  pub no_place : far ≡ None → (NoPlace ≡ tried) × (b ≡ left NoPlace)
   unfolding attempt_at spot_of gone_by
-  no_place e = (sym (tried_by ∙ ap (λ (x : Far). attempt_at s wall vs lens (allowed_in n b) (reach_in n b) pref (spot_of s wall (allowed_in n b) (reach_in n b) pref x)) e), sym (run-same 3 n b (omega arith)))
+  no_place e = (sym (tried_by ∙ ap (λ (x : Option Far). attempt_at s wall vs lens (allowed_in n b) (reach_in n b) pref (spot_of s wall (allowed_in n b) (reach_in n b) pref x)) e), sym (run-same 3 n b (omega arith)))
 
-  module _ (c : CellNo) (d : Float) (C : far ≡ Cell c d) (i j : ℕ) (I : i ≡ c.0 % s.grid.nx) (J : j ≡ c.0 / s.grid.nx) (p : Vec2) (P : p ≡ center_of s.grid i j)
-      (w : Float) (W : w ≡ widest_of s pref d) (r : Radius) (R : radius_by r ≡ radius_at s wall vs lens p w) where
-    centre : p ≡ center_of s.grid (c.0 % s.grid.nx) (c.0 / s.grid.nx)
-    centre = P ∙ ap (λ (x : ℕ). center_of s.grid x j) I ∙ ap (center_of s.grid (c.0 % s.grid.nx)) J
+  module _ (f : Far) (C : far ≡ Some f) (i j : ℕ) (I : i ≡ f.cell.0 % s.grid.nx) (J : j ≡ f.cell.0 / s.grid.nx) (p : Vec2) (P : p ≡ center_of s.grid i j)
+      (w : Float) (W : w ≡ widest_of s pref f.distance) (r : Option Float) (R : radius_by r ≡ radius_at s wall vs lens p w) where
+    centre : p ≡ center_of s.grid (f.cell.0 % s.grid.nx) (f.cell.0 / s.grid.nx)
+    centre = P ∙ ap (λ (x : ℕ). center_of s.grid x j) I ∙ ap (center_of s.grid (f.cell.0 % s.grid.nx)) J
 
     fitted_is : tried ≡ fitting p (radius_by r)
     unfolding attempt_at spot_of
     fitted_is =
-        tried_by ∙ ap (λ (x : Far). attempt_at s wall vs lens (allowed_in n b) (reach_in n b) pref (spot_of s wall (allowed_in n b) (reach_in n b) pref x)) C
-        ∙ ap (λ (x : Vec2). fitting x (radius_at s wall vs lens x (widest_of s pref d))) (sym centre)
+        tried_by ∙ ap (λ (x : Option Far). attempt_at s wall vs lens (allowed_in n b) (reach_in n b) pref (spot_of s wall (allowed_in n b) (reach_in n b) pref x)) C
+        ∙ ap (λ (x : Vec2). fitting x (radius_at s wall vs lens x (widest_of s pref f.distance))) (sym centre)
         ∙ ap (λ (x : Float). fitting p (radius_at s wall vs lens p x)) (sym W)
         ∙ ap (fitting p) (sym R)
 
-    pub place-fits : (rad : Float) → r ≡ Of rad → (Fitted p rad ≡ tried) × (b ≡ left (Fitted p rad))
+    pub place-fits : (rad : Float) → r ≡ Some rad → (Fitted p rad ≡ tried) × (b ≡ left (Fitted p rad))
     unfolding fitting gone_by
-    place-fits rad e = (sym (fitted_is ∙ ap (λ (x : Radius). fitting p (radius_by x)) e), sym (run-same 3 n b (omega arith)))
+    place-fits rad e = (sym (fitted_is ∙ ap (λ (x : Option Float). fitting p (radius_by x)) e), sym (run-same 3 n b (omega arith)))
 
-    pub place-gone : r ≡ NoRadius → (b' : List ℕ) → b' ≡ abandoned_put n (flood_of s.grid (map_in n b) (reach_in n b) c.0 (abandoned_in n b)) b → (GivenUp p ≡ tried) × (b' ≡ left (GivenUp p))
+    pub place-gone : r ≡ None → (b' : List ℕ) → b' ≡ abandoned_put n (flood_of s.grid (map_in n b) (reach_in n b) f.cell.0 (abandoned_in n b)) b → (GivenUp p ≡ tried) × (b' ≡ left (GivenUp p))
     unfolding fitting gone_by abandon_of flood_at
     place-gone e b' B = (
-      sym (fitted_is ∙ ap (λ (x : Radius). fitting p (radius_by x)) e),
-      B ∙ ap (λ (x : Far). abandoned_put n (flood_at s wall (allowed_in n b) (reach_in n b) pref x (map_in n b) (abandoned_in n b)) b) (sym C ∙ F),
+      sym (fitted_is ∙ ap (λ (x : Option Float). fitting p (radius_by x)) e),
+      B ∙ ap (λ (x : Option Far). abandoned_put n (flood_at s wall (allowed_in n b) (reach_in n b) pref x (map_in n b) (abandoned_in n b)) b) (sym C ∙ F),
     )
 
 -- ---- place after place: k were given up, and the bytes b₀ have become b
@@ -170,15 +165,15 @@ module _ (s : Setup) (wall vs : List Float) (lens : List ℕ) (pref : Float) (b�
           left_alone g ∙ T.only.rest ∙ ap (λ (q : Sought). abandoned_put total q.gone b₀) x,
         )
 
-        pub found_none : k < 64 → a ≡ NoPlace → (Nothing k ≡ sought.found) × (b' ≡ abandoned_put total sought.gone b₀)
+        pub found_none : k < 64 → a ≡ NoPlace → ((None, k) ≡ sought.found) × (b' ≡ abandoned_put total sought.gone b₀)
         unfolding step_by gone_by
-        found_none l e = finish l (Nothing k)
+        found_none l e = finish l (None, k)
             (ap (λ (x : Attempt). step_by s wall vs lens (allowed_in total b₀) (reach_in total b₀) pref (map_in total b₀) x k (sk (abandoned_in total b) T.events)) e)
             (ap (λ (x : Attempt). gone_by s wall vs lens (allowed_in total b) (reach_in total b) pref x (map_in total b) (abandoned_in total b)) e)
 
-        pub found-one : k < 64 → (c : Vec2) (rad : Float) → a ≡ Fitted c rad → (Helix c rad k ≡ sought.found) × (b' ≡ abandoned_put total sought.gone b₀)
+        pub found-one : k < 64 → (c : Vec2) (rad : Float) → a ≡ Fitted c rad → ((Some (c, rad), k) ≡ sought.found) × (b' ≡ abandoned_put total sought.gone b₀)
         unfolding step_by gone_by
-        found-one l c rad e = finish l (Helix c rad k)
+        found-one l c rad e = finish l (Some (c, rad), k)
             (ap (λ (x : Attempt). step_by s wall vs lens (allowed_in total b₀) (reach_in total b₀) pref (map_in total b₀) x k (sk (abandoned_in total b) T.events)) e)
             (ap (λ (x : Attempt). gone_by s wall vs lens (allowed_in total b) (reach_in total b) pref x (map_in total b) (abandoned_in total b)) e)
 
@@ -201,8 +196,8 @@ module _ (s : Setup) (wall vs : List Float) (lens : List ℕ) (pref : Float) (b�
                   (subst (Only (3 * total) (3 * total + total) b) (sym is) (put_only _ _ b (record { start = omega arith; end = omega (arith, tried-long) }) new (omega (arith, long))));
             }
 
-    pub found-end : 64 ≤ k → (Nothing 64 ≡ sought.found) × (b ≡ abandoned_put total sought.gone b₀)
+    pub found-end : 64 ≤ k → ((None, 64) ≡ sought.found) × (b ≡ abandoned_put total sought.gone b₀)
     unfolding seek_of sought_end
     found-end l =
-        let x : so (abandoned_in total b) T.events (Nothing 64) ≡ sought = ap sought_end (going_end _ 0 64 _ _ k T.going l) in
+        let x : so (abandoned_in total b) T.events (None, 64) ≡ sought = ap sought_end (going_end _ 0 64 _ _ k T.going l) in
         (ap (λ (q : Sought). q.found) x, T.only.rest ∙ ap (λ (q : Sought). abandoned_put total q.gone b₀) x)

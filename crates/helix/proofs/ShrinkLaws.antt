@@ -141,7 +141,7 @@ least-high s diameter e h =
 widest-low : (s : Setup) (pref d : Float) → le pref f1000 ≡ true → le (widest_of s pref d) f1000 ≡ true
 unfolding widest_of min_of
 widest-low s pref d h =
-    let x : Float = sub binary64 (sub binary64 d s.keep) (mul binary64 f2 s.grid.cell) in
+    let x : Float = sub binary64 (sub binary64 d s.keep.r) (mul binary64 f2 s.grid.cell) in
     by_test (λ (w : Float). le w f1000 ≡ true) (lt x pref) _ _
     (λ t. le_le x pref f1000 (lt_to_le x pref t) h)
     (λ t. by_test (λ (w : Float). le w f1000 ≡ true) (is_nan pref) _ _ (λ u. never (sym (le_numbers pref f1000 h).0 ∙ u)) (λ u. h))

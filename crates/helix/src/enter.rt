@@ -1,44 +1,21 @@
 // Entering by a helix: its disk cleared, and its row listed.
-ghost use Rattle.std.specs.Prelude.{◌≡◌, ◌∷◌, [], ◌+◌, ◌*◌, ◌≤◌, length};
+ghost use Rattle.std.specs.Prelude.{◌≡◌, [], ◌+◌, ◌*◌, ◌≤◌, length};
 ghost use Rattle.loops.specs.Frame.{Only};
 ghost use Rattle.raster.specs.Grid.{Sides};
 ghost use Rattle.setup.specs.Layout.{map_from, heap_from, segments_from, map_in, allowed_in};
 ghost use Rattle.setup.specs.Place.{cells_of};
 ghost use Rattle.links.specs.Path.{wall_in};
 ghost use Rattle.events.specs.Replay.{helix_end};
-ghost use Rattle.cutting.specs.Listing.{refusal_of};
 ghost use Rattle.cutting.specs.Piece.{Listed};
 ghost use Rattle.workspace.specs.Standing.{reach_in, abandoned_in, Standing};
 ghost use Rattle.helix.specs.Enter.{left_in, listed_of, helix_of, Settled};
 
-use super::search::{Found, find};
+use super::search::find;
+use cutting::listing::{Full, room};
 use cutting::piece::State;
-use events::list::{put_row, put_triple};
+use events::list::{Kind, put_row, put_triple};
 use geom::vec2::Vec2;
-use passes::start::Place;
 use setup::{Setup, layout};
-
-// What became of the search for an entry: a helix, no room for one, or document 01's refusal 16 or 17; with
-// how many places were given up.
-#[derive(Clone, Copy)]
-pub enum Entered {
-    Bored(State, usize),
-    NoRoom(usize),
-    Refused(u32),
-}
-
-// Document 01's refusal for one chunk of one triple, with so many triples and rows free; 0 where it fits.
-fn refusal(triples: usize, rows: usize) -> u32
-    ensures { result ≡ refusal_of triples rows (1 ∷ []) }
-{
-    if triples < 1 {
-        return 16;
-    }
-    if rows == 0 {
-        return 17;
-    }
-    0
-}
 
 // Where a helix leaves the tool: its y is summed too.
 fn end_of(c: Vec2, radius: f64) -> Vec2
@@ -57,7 +34,7 @@ fn bore(
     c: Vec2,
     radius: f64,
     given_up: usize,
-) -> Entered
+) -> Result<(Option<State>, usize), Full>
     requires sides { Sides s.grid }
     requires s_in_bounds { 8 * cells_of s ≤ length b.old }
     requires listed { Listed rows.old triples.old t 0 }
@@ -66,29 +43,23 @@ fn bore(
 {
     let first = t.triples;
     let row = t.rows;
-    let no = refusal(triples.len() / 3 - first, rows.len() / 3 - row);
-    if no != 0 {
-        return Entered::Refused(no);
-    }
+    room(triples.len() / 3 - first, rows.len() / 3 - row, 0, 1)?;
     let g = s.grid;
     let n = s.grid.ny * s.grid.nx;
     raster::clear::clear_disk(g, &mut b[0..n], c, radius + s.r);
     put_triple(triples, first, c, radius);
-    put_row(rows, row, 1, first as u32, 1);
-    Entered::Bored(
-        State {
-            pos: Place::At(end_of(c, radius)),
-            rows: row + 1,
-            triples: first + 1,
-            planned_max: t.planned_max,
-            work: t.work,
-        },
-        given_up,
-    )
+    put_row(rows, row, Kind::Helix, first as u32, 1);
+    let entered = State {
+        pos: Some(end_of(c, radius)),
+        rows: row + 1,
+        triples: first + 1,
+        ..t
+    };
+    Ok((Some(entered), given_up))
 }
 
-// Enters by a helix where there is room for one; `pref` is the radius that is preferred. Cells where there
-// is none are given up. The flood's stack lies where the heap does.
+// Enters by a helix where there is room for one: the state then, and how many places were given up before; `pref` is
+// the radius that is preferred. Cells where there is none are given up. The flood's stack lies where the heap does.
 pub fn enter(
     s: Setup,
     t: State,
@@ -100,7 +71,7 @@ pub fn enter(
     w: &[f64],
     triples: &mut [f64],
     rows: &mut [u32],
-) -> Entered
+) -> Result<(Option<State>, usize), Full>
     requires standing { Standing s vs.now lens.now b.old u.old w.now }
     requires listed { Listed rows.old triples.old t 0 }
     ensures result_after { left_in (cells_of s) b.new rows.new triples.new result ≡ (helix_of s (wall_in s w.now) vs.now lens.now (allowed_in (cells_of s) b.old) (reach_in (cells_of s) b.old) pref t (map_in (cells_of s) b.old) (abandoned_in (cells_of s) b.old) rows.old triples.old).left }
@@ -110,9 +81,9 @@ pub fn enter(
     let n = s.grid.ny * s.grid.nx;
     let heap = layout::before(n) + n;
     let end = layout::segments(n);
-    let f = find(s, &w[0..n], vs, lens, pref, b, &mut u[heap..end]);
-    match f {
-        Found::Nothing(given_up) => Entered::NoRoom(given_up),
-        Found::Helix(c, radius, given_up) => { bore(s, t, b, triples, rows, c, radius, given_up) }
-    }
+    let (found, given_up) = find(s, &w[0..n], vs, lens, pref, b, &mut u[heap..end]);
+    let Some((c, radius)) = found else {
+        return Ok((None, given_up));
+    };
+    bore(s, t, b, triples, rows, c, radius, given_up)
 }

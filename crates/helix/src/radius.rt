@@ -11,13 +11,6 @@ use numbers::cast::float_of;
 use numbers::circle::TAU;
 use setup::Setup;
 
-// A radius that fits.
-#[derive(Clone, Copy)]
-pub enum Radius {
-    Of(f64),
-    Nothing,
-}
-
 // Rim point k of 36.
 fn rim_point(c: Vec2, radius: f64, k: usize) -> Vec2
     ensures { result ≡ rim_point c radius k }
@@ -48,7 +41,14 @@ fn least(s: Setup) -> f64
 }
 
 // From `widest` down the first radius whose rim points are all allowed. After 64 shrinks no more is tried.
-pub fn radius_at(s: Setup, wall: &[f64], vs: &[f64], lens: &[u32], c: Vec2, widest: f64) -> Radius
+pub fn radius_at(
+    s: Setup,
+    wall: &[f64],
+    vs: &[f64],
+    lens: &[u32],
+    c: Vec2,
+    widest: f64,
+) -> Option<f64>
     requires { Walls s wall.now vs.now lens.now }
     ensures { radius_by result ≡ radius_at s wall.now vs.now lens.now c widest }
 {
@@ -56,12 +56,12 @@ pub fn radius_at(s: Setup, wall: &[f64], vs: &[f64], lens: &[u32], c: Vec2, wide
     let mut radius = widest;
     for k in 0..65usize {
         if !(radius >= least) {
-            return Radius::Nothing;
+            return None;
         }
         if rim_allowed(s, wall, vs, lens, c, radius) {
-            return Radius::Of(radius);
+            return Some(radius);
         }
         radius = radius * 0.8;
     }
-    Radius::Nothing
+    None
 }

@@ -5,9 +5,9 @@ ghost use Rattle.setup.specs.Place.{cells_of, Walls};
 ghost use Rattle.workspace.specs.Standing.{reach_in, abandoned_in, abandoned_put};
 ghost use Rattle.helix.specs.Search.{widest_of, attempt_of, gone_by, seek_of};
 
-use super::radius::{Radius, radius_at};
+use super::radius::radius_at;
 use flood::flood::flood;
-use flood::place::{Far, farthest};
+use flood::place::farthest;
 use geom::vec2::Vec2;
 use raster::grid::{center, column_of, row_of};
 use setup::Setup;
@@ -20,18 +20,11 @@ pub enum Attempt {
     GivenUp(Vec2),
 }
 
-// Centre and radius of a helix, if there is one, and how many places were given up before.
-#[derive(Clone, Copy)]
-pub enum Found {
-    Helix(Vec2, f64, usize),
-    Nothing(usize),
-}
-
 // The radius that is tried first at the distance d from the walls.
 fn widest(s: Setup, pref: f64, d: f64) -> f64
     ensures { result ≡ widest_of s pref d }
 {
-    numbers::order::min(pref, d - s.keep - 2.0 * s.grid.cell)
+    numbers::order::min(pref, d - s.keep.r - 2.0 * s.grid.cell)
 }
 
 // Tries the farthest place; the stack is for the flood.
@@ -51,20 +44,19 @@ fn try_place(
     ensures b_after { b.new ≡ abandoned_put (cells_of s) (gone_by s wall.now vs.now lens.now (allowed_in (cells_of s) b.old) (reach_in (cells_of s) b.old) pref result (map_in (cells_of s) b.old) (abandoned_in (cells_of s) b.old)) b.old }
 {
     let g = s.grid;
-    let far = farthest(b, wall, s.grid.ny * s.grid.nx);
-    let Far::Cell(c, d) = far else {
+    let Some(far) = farthest(b, wall, s.grid.ny * s.grid.nx) else {
         return Attempt::Nothing;
     };
+    let c = far.cell;
     let p = center(g, column_of(g, c), row_of(g, c));
-    let r = radius_at(s, wall, vs, lens, p, widest(s, pref, d));
-    let Radius::Of(radius) = r else {
+    let Some(radius) = radius_at(s, wall, vs, lens, p, widest(s, pref, far.distance)) else {
         flood(g, b, stack, c);
         return Attempt::GivenUp(p);
     };
     Attempt::Fits(p, radius)
 }
 
-// At most 64 places are tried.
+// Centre and radius of a helix, if there is one, and how many places were given up before. At most 64 are tried.
 pub fn find(
     s: Setup,
     wall: &[f64],
@@ -73,7 +65,7 @@ pub fn find(
     pref: f64,
     b: &mut [u8],
     stack: &mut [u32],
-) -> Found
+) -> (Option<(Vec2, f64)>, usize)
     requires walls { Walls s wall.now vs.now lens.now }
     requires s_in_bounds { 8 * cells_of s ≤ length b.old }
     requires s_in_bounds_2 { 9 * cells_of s ≤ length stack.old }
@@ -83,10 +75,10 @@ pub fn find(
     for k in 0..64 {
         let a = try_place(s, wall, vs, lens, pref, b, stack);
         match a {
-            Attempt::Nothing => return Found::Nothing(k),
-            Attempt::Fits(c, radius) => return Found::Helix(c, radius, k),
+            Attempt::Nothing => return (None, k),
+            Attempt::Fits(c, radius) => return (Some((c, radius)), k),
             Attempt::GivenUp(_) => {}
         }
     }
-    Found::Nothing(64)
+    (None, 64)
 }

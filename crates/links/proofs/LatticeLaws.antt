@@ -17,9 +17,8 @@ use Rattle.numbers.specs.Order.{max_of}
 use Rattle.numbers.proofs.MaxLaws.{max_ge_right}
 use Rattle.numbers.specs.Small.{f1, f16}
 use Rattle.geom.specs.declared.vec2.Vec2.{Vec2}
-use Rattle.distance.specs.Limits.{scaled_of, LimitOf}
+use Rattle.distance.specs.Limits.{scaled_of}
 use Rattle.distance.specs.declared.limits.Threshold.{Threshold}
-use Rattle.distance.specs.declared.limits.Limit.{Limit}
 use Rattle.raster.specs.Grid.{Sides, numbered, center_of}
 use Rattle.raster.specs.declared.grid.Grid.{Grid}
 use Rattle.raster.specs.declared.grid.CellNo.{CellNo}
@@ -27,9 +26,8 @@ use Rattle.raster.proofs.GridLaws.{number-below}
 use Rattle.setup.specs.declared.Setup.{Setup}
 use Rattle.links.specs.declared.NodeNo.{NodeNo}
 use Rattle.links.specs.declared.lattice.Lattice.{Lattice}
-use Rattle.links.specs.declared.lattice.Neighbour.{Neighbour}
-use Rattle.links.specs.declared.lattice.Neighbour.TheVariants.{Off, At}
-use Rattle.links.specs.Lattice.{spacing_of, along, centre_at, node_at, lattice_of, nodes, column_of, row_of, cell_of_node, node_free, beside_x, beside_y, on_lattice, beside_of, IsNode, Laid, bound_of, Limited}
+use Rattle.std.specs.Prelude.{Option, Some, None}
+use Rattle.links.specs.Lattice.{spacing_of, along, centre_at, node_at, lattice_of, nodes, column_of, row_of, cell_of_node, node_free, beside_x, beside_y, on_lattice, beside_of, IsNode, Laid, bound_of}
 
 -- ---- places k apart
 
@@ -180,34 +178,31 @@ cell-is l v i j c I J C = rw (← I, ← J) C
 
 -- ---- free nodes
 
-pub limited-bound : (l : Lattice) (m : Limit) (b : Threshold) → b ≡ bound_of l.margin → Limited l m → LimitOf b.scaled b.scale b.strict b.x m.told m.below × (b.strict ≡ false)
-limited-bound l m b e h = (subst (λ (c : Threshold). LimitOf c.scaled c.scale c.strict c.x m.told m.below) (sym e) h, ap (λ (c : Threshold). c.strict) e)
-
 module _ (l : Lattice) (allowed squares : List ℕ) (v : NodeNo) (k : ℕ) (K : k ≡ (cell_of_node l v).0) where
   pub free_not : (get_or allowed k 0 ≡ 1 → ⊥) → false ≡ node_free l allowed squares v
   unfolding node_free
   free_not h = rw (← K, ne_eqb (get_or allowed k 0) 1 h)
 
-  pub free-judged : get_or allowed k 0 ≡ 1 → (b : Threshold) → b ≡ bound_of l.margin → (t : Bool) → t ≡ lt b.x (scaled_of b.scaled b.scale (get_or squares k 0)) → t ≡ node_free l allowed squares v
+  pub free-judged : get_or allowed k 0 ≡ 1 → (b : Threshold) → b ≡ bound_of l.margin → (t : Bool) → t ≡ lt b.x (scaled_of b.scale (get_or squares k 0)) → t ≡ node_free l allowed squares v
   unfolding node_free scaled_of
-  free-judged h b d t e = rw (← K, h) (e ∙ ap (λ (c : Threshold). lt c.x (scaled_of c.scaled c.scale (get_or squares k 0))) d)
+  free-judged h b d t e = rw (← K, h) (e ∙ ap (λ (c : Threshold). lt c.x (scaled_of c.scale (get_or squares k 0))) d)
 
 -- ---- neighbours
 
 module _ (l : Lattice) (a b : ℕ) where
-  pub off-left : a < 1 → Off ≡ on_lattice l a b
+  pub off-left : a < 1 → None ≡ on_lattice l a b
   unfolding on_lattice
   off-left h = rw (lt-ltb a 1 h)
 
-  pub off-below : 1 ≤ a → b < 1 → Off ≡ on_lattice l a b
+  pub off-below : 1 ≤ a → b < 1 → None ≡ on_lattice l a b
   unfolding on_lattice
   off-below p h = rw (le-ltb a 1 p, lt-ltb b 1 h)
 
-  pub off-right : 1 ≤ a → 1 ≤ b → l.gx < a → Off ≡ on_lattice l a b
+  pub off-right : 1 ≤ a → 1 ≤ b → l.gx < a → None ≡ on_lattice l a b
   unfolding on_lattice
   off-right p q h = rw (le-ltb a 1 p, le-ltb b 1 q, lt-ltb l.gx a h)
 
-  pub off-above : 1 ≤ a → 1 ≤ b → a ≤ l.gx → l.gy < b → Off ≡ on_lattice l a b
+  pub off-above : 1 ≤ a → 1 ≤ b → a ≤ l.gx → l.gy < b → None ≡ on_lattice l a b
   unfolding on_lattice
   off-above p q r h = rw (le-ltb a 1 p, le-ltb b 1 q, le-ltb l.gx a r, lt-ltb l.gy b h)
 
@@ -216,9 +211,9 @@ module _ (l : Lattice) (a b : ℕ) where
       let z : (b - 1) * l.gx ≤ l.gy * l.gx = mul-le-mul_right l.gx (let y : b - 1 ≤ l.gy = omega arith in y) in
       (omega (arith, gx_le l L, L.sides.columns), omega (arith, nodes-most l L))
 
-  pub on_there : 1 ≤ a → 1 ≤ b → a ≤ l.gx → b ≤ l.gy → (v : NodeNo) → v ≡ node_at l.gx (a - 1) (b - 1) → At v ≡ on_lattice l a b
+  pub on_there : 1 ≤ a → 1 ≤ b → a ≤ l.gx → b ≤ l.gy → (v : NodeNo) → v ≡ node_at l.gx (a - 1) (b - 1) → Some v ≡ on_lattice l a b
   unfolding on_lattice
-  on_there p q r h v e = rw (le-ltb a 1 p, le-ltb b 1 q, le-ltb l.gx a r, le-ltb l.gy b h) (ap (λ (n : NodeNo). At n) e)
+  on_there p q r h v e = rw (le-ltb a 1 p, le-ltb b 1 q, le-ltb l.gx a r, le-ltb l.gy b h) (ap (λ (n : NodeNo). Some n) e)
 
 small : List ℕ → Bool
 small [] = true
@@ -238,19 +233,19 @@ pub y-small : (d : ℕ) → get_or beside_y d 0 ≤ 2
 unfolding small
 y-small d = small_at beside_y refl d
 
-pub beside_is : (l : Lattice) (v : NodeNo) (d x y : ℕ) (r : Neighbour) → x ≡ get_or beside_x d 0 → y ≡ get_or beside_y d 0 → r ≡ on_lattice l (v.0 % l.gx + x) (v.0 / l.gx + y) → r ≡ beside_of l v d
+pub beside_is : (l : Lattice) (v : NodeNo) (d x y : ℕ) (r : Option NodeNo) → x ≡ get_or beside_x d 0 → y ≡ get_or beside_y d 0 → r ≡ on_lattice l (v.0 % l.gx + x) (v.0 / l.gx + y) → r ≡ beside_of l v d
 unfolding beside_of
 beside_is l v d x y r X Y R = rw (← X, ← Y) R
 
 -- a neighbour is a node
-IsAt : Lattice → Neighbour → Type 0
-IsAt l Off = Unit {0}
-IsAt l (At v) = IsNode l v
+IsAt : Lattice → Option NodeNo → Type 0
+IsAt l None = Unit {0}
+IsAt l (Some v) = IsNode l v
 
 on-node : (l : Lattice) (a b : ℕ) → IsAt l (on_lattice l a b)
 unfolding on_lattice IsAt
 on-node l a b =
-    by_test (IsAt l) (ltb a 1 || (ltb b 1 || (ltb l.gx a || ltb l.gy b))) Off (At (node_at l.gx (a - 1) (b - 1))) (λ _. tt)
+    by_test (IsAt l) (ltb a 1 || (ltb b 1 || (ltb l.gx a || ltb l.gy b))) None (Some (node_at l.gx (a - 1) (b - 1))) (λ _. tt)
     (λ e. let p = neither _ _ e in
     let q = neither _ _ p.1 in
     let r = neither _ _ q.1 in
@@ -258,6 +253,6 @@ on-node l a b =
     let j : b - 1 < l.gy = omega (arith, ltb-false b 1 q.0, ltb-false l.gy b r.1) in
     number-below _ _ _ _ _ i j (omega arith))
 
-pub beside_node : (l : Lattice) (v w : NodeNo) (d : ℕ) (r : Neighbour) → r ≡ beside_of l v d → r ≡ At w → IsNode l w
+pub beside_node : (l : Lattice) (v w : NodeNo) (d : ℕ) (r : Option NodeNo) → r ≡ beside_of l v d → r ≡ Some w → IsNode l w
 unfolding beside_of IsAt
 beside_node l v w d r R W = subst (IsAt l) (sym R ∙ W) (on-node l _ _)

@@ -1,4 +1,5 @@
 -- The whole link: each part of the workspace is lent and comes back, and what they hold makes the way. Assumes nothing.
+use Rattle.std.specs.Prelude.{None, Option, Some}
 use mathlib.Core.Path.{◌≡◌, refl, sym, ap, ◌∙◌, subst}
 use mathlib.Core.Bool.{Bool, true, false, cond}
 use mathlib.Core.List.{List, [], ◌∷◌}
@@ -24,8 +25,6 @@ use Rattle.distance.specs.Rooted.{rooted_of, distance_transform}
 use Rattle.distance.proofs.NearestLaws.{listed_at}
 use Rattle.raster.specs.Grid.{Over, cell_of}
 use Rattle.raster.specs.declared.grid.Grid.{Grid}
-use Rattle.raster.specs.declared.grid.Found.{Found}
-use Rattle.raster.specs.declared.grid.Found.TheVariants.{Nothing, At}
 use Rattle.rims.specs.Tiles.{Tiled}
 use Rattle.setup.specs.Place.{Walls}
 use Rattle.setup.specs.Tables.{Tables}
@@ -33,14 +32,12 @@ use Rattle.setup.specs.declared.Setup.{Setup}
 use Rattle.links.specs.declared.heap.Entry.{Entry}
 use Rattle.links.specs.declared.lattice.Lattice.{Lattice}
 use Rattle.links.specs.declared.search.Sought.{Sought}
-use Rattle.links.specs.declared.path.Shortened.{Shortened}
-use Rattle.links.specs.declared.path.Shortened.TheVariants.{Blocked, Points}
-use Rattle.links.specs.declared.link.Route.TheVariants.{Along, Lost}
+use Rattle.std.specs.Prelude.{Option, Some, None}
 use Rattle.links.specs.Lattice.{lattice_of, nodes, cell_of_node, Laid, Telling}
 use Rattle.links.specs.Search.{Search, Outcome, seek_next, seek_step, ended, started, seek_of, cells, squares_in, Befores, outcome_in}
 use Rattle.links.specs.Straight.{link_clear}
 use Rattle.links.specs.Path.{Way, lost, way, nodes_of, shorten_of, wall_in, path_in, clear_in, Fitted, short_in}
-use Rattle.links.specs.Link.{Linked, linked, around_of, between_of, link_path, linked_in, before_in}
+use Rattle.links.specs.Link.{route, Linked, linked, around_of, between_of, link_path, linked_in, before_in}
 use Rattle.links.proofs.LatticeLaws.{nodes-few, nodes-most, cell_below}
 use Rattle.links.proofs.SeekLaws.{sound_seek, seek_same}
 use Rattle.links.proofs.LayLaws.{points-front}
@@ -140,7 +137,7 @@ module _ (s : Setup) (vs : List Float) (lens m : List ℕ) (w : List Float) (F :
       pub shorten_asks : (t : List ℕ) → Tiled s.grid m t → Fitted s vs lens m w₁ × (Tiled s.grid m t × ((k ≤ n) × (2 * n ≤ 3 * size)))
       shorten_asks t T = (fitted_only s vs lens m w F w₁ laid-only, (T, (omega arith, omega (arith, nodes_in))))
 
-      pub trace_is : (to from : Vec2) → points k (nodes l - k) r ≡ nodes_of l (take (b + n - b) (drop b u)) to → (q : Shortened) (w₂ : List Float)
+      pub trace_is : (to from : Vec2) → points k (nodes l - k) r ≡ nodes_of l (take (b + n - b) (drop b u)) to → (q : Option ℕ) (w₂ : List Float)
           → short_in s q w₂ ≡ shorten_of (clear_in s vs lens m w₁) (points k (n - k) (path_in s w₁)) from → Only (20 * size) (23 * size) w₁ w₂
           → (short_in s q w₂ ≡ shorten_of (clear_in s vs lens m w) (nodes_of l (before_in l u) to) from) × Only (20 * size) (23 * size) w w₂
       unfolding within
@@ -244,10 +241,10 @@ module _ (s : Setup) (vs : List Float) (lens m allowed : List ℕ) (w : List Flo
       by = ap (λ (q : Outcome). linked (cond q.sought.found (shorten_of (link_clear s (wall_in s w) vs lens m) (nodes_of l q.before to) from) lost) (q.sought.expanded * 8)) X
 
       pub around_not : o.found ≡ false
-          → (linked_in s (Lost (o.expanded * 8)) wₛ ≡ around_of s (wall_in s w) vs lens m allowed from to l) × (Only 0 (15 * n) u u₁ × Only (10 * n) (23 * n) w wₛ)
+          → (linked_in s (route None (o.expanded * 8)) wₛ ≡ around_of s (wall_in s w) vs lens m allowed from to l) × (Only 0 (15 * n) u u₁ × Only (10 * n) (23 * n) w wₛ)
       around_not d = (sym (ap (λ (t : Bool). linked (cond t (shorten_of (link_clear s (wall_in s w) vs lens m) (nodes_of l (before_in l u₁) to) from) lost) (o.expanded * 8)) d) ∙ by, (words-only, wide))
 
-      module _ (d : o.found ≡ true) (k : Shortened) (w₂ : List Float) (K : short_in s k w₂ ≡ shorten_of (clear_in s vs lens m wₛ) (nodes_of l (before_in l u₁) to) from) (O : Only (20 * n) (23 * n) wₛ w₂) where
+      module _ (d : o.found ≡ true) (k : Option ℕ) (w₂ : List Float) (K : short_in s k w₂ ≡ shorten_of (clear_in s vs lens m wₛ) (nodes_of l (before_in l u₁) to) from) (O : Only (20 * n) (23 * n) wₛ w₂) where
         found : linked (short_in s k w₂) (o.expanded * 8) ≡ around_of s (wall_in s w) vs lens m allowed from to l
         found =
             ap (λ (p : Way). linked p (o.expanded * 8)) (K ∙ ap (λ (wall : List Float). shorten_of (link_clear s wall vs lens m) (nodes_of l (before_in l u₁) to) from) (wall-kept s vs lens m w F a e (omega arith) (omega arith) (omega arith) wₛ costs_only))
@@ -259,13 +256,8 @@ module _ (s : Setup) (vs : List Float) (lens m allowed : List ℕ) (w : List Flo
             let f : Fits (20 * n) (23 * n) wₛ = record { start = omega arith; end = omega (arith, F.long, wide.long) } in
             only_more (10 * n) (23 * n) w (record { start = omega arith; end = omega (arith, F.long) }) wₛ wide w₂ (only_wider (20 * n) (23 * n) wₛ w₂ f O (10 * n) (23 * n) (omega arith) (omega arith) (omega (arith, F.long, wide.long)))
 
-        pub around_lost : k ≡ Blocked
-            → (linked_in s (Lost (o.expanded * 8)) w₂ ≡ around_of s (wall_in s w) vs lens m allowed from to l) × (Only 0 (15 * n) u u₁ × Only (10 * n) (23 * n) w w₂)
-        around_lost z = (sym (ap (λ (q : Shortened). linked (short_in s q w₂) (o.expanded * 8)) z) ∙ found, (words-only, rest))
-
-        pub around_found : (c : ℕ) → k ≡ Points c
-            → (linked_in s (Along c (o.expanded * 8)) w₂ ≡ around_of s (wall_in s w) vs lens m allowed from to l) × (Only 0 (15 * n) u u₁ × Only (10 * n) (23 * n) w w₂)
-        around_found c z = (sym (ap (λ (q : Shortened). linked (short_in s q w₂) (o.expanded * 8)) z) ∙ found, (words-only, rest))
+        pub around_traced : (linked_in s (route k (o.expanded * 8)) w₂ ≡ around_of s (wall_in s w) vs lens m allowed from to l) × (Only 0 (15 * n) u u₁ × Only (10 * n) (23 * n) w w₂)
+        around_traced = (found, (words-only, rest))
 
 -- ---- the link
 
@@ -288,7 +280,7 @@ module _ (s : Setup) (vs : List Float) (lens m allowed : List ℕ) (w : List Flo
 
   module _ (t : Bool) (T : t ≡ clear_in s vs lens m w from to) where
     pub link_straight : t ≡ true → (w' : List Float) → path_in s w' ≡ put_point 0 to (path_in s w) → Only (20 * cells_of) (23 * cells_of) w w'
-        → (linked_in s (Along 1 0) w' ≡ link_path s (wall_in s w) vs lens m allowed from to) × (Only 0 (15 * cells_of) u u × Only (10 * cells_of) (23 * cells_of) w w')
+        → (linked_in s (route (Some 1) 0) w' ≡ link_path s (wall_in s w) vs lens m allowed from to) × (Only 0 (15 * cells_of) u u × Only (10 * cells_of) (23 * cells_of) w w')
     unfolding link_path
     link_straight e w' P O =
         let f : Fits (20 * cells_of) (23 * cells_of) w = record { start = omega arith; end = omega (arith, F.long) } in
@@ -298,31 +290,31 @@ module _ (s : Setup) (vs : List Float) (lens m allowed : List ℕ) (w : List Flo
         )
 
     module _ (e : t ≡ false) where
-      by_cells : (x z : Found) → x ≡ cell_of s.grid from → z ≡ cell_of s.grid to → between_of s (wall_in s w) vs lens m allowed from to x z ≡ link_path s (wall_in s w) vs lens m allowed from to
+      by_cells : (x z : Option (ℕ × ℕ)) → x ≡ cell_of s.grid from → z ≡ cell_of s.grid to → between_of s (wall_in s w) vs lens m allowed from to x z ≡ link_path s (wall_in s w) vs lens m allowed from to
       unfolding link_path
       by_cells x z X Z = rw (← T, e) (rw (X, Z))
 
-      pub link-no-from : (x : Found) → x ≡ cell_of s.grid from → x ≡ Nothing
-          → (linked_in s (Lost 0) w ≡ link_path s (wall_in s w) vs lens m allowed from to) × (Only 0 (15 * cells_of) u u × Only (10 * cells_of) (23 * cells_of) w w)
+      pub link-no-from : (x : Option (ℕ × ℕ)) → x ≡ cell_of s.grid from → x ≡ None
+          → (linked_in s (route None 0) w ≡ link_path s (wall_in s w) vs lens m allowed from to) × (Only 0 (15 * cells_of) u u × Only (10 * cells_of) (23 * cells_of) w w)
       unfolding between_of
       link-no-from x X d =
-          (sym (ap (λ (y : Found). between_of s (wall_in s w) vs lens m allowed from to y (cell_of s.grid to)) d) ∙ by_cells x (cell_of s.grid to) X refl, (none_u, none_w))
+          (sym (ap (λ (y : Option (ℕ × ℕ)). between_of s (wall_in s w) vs lens m allowed from to y (cell_of s.grid to)) d) ∙ by_cells x (cell_of s.grid to) X refl, (none_u, none_w))
 
-      module _ (x : Found) (X : x ≡ cell_of s.grid from) (i j : ℕ) (I : x ≡ At i j) (z : Found) (Z : z ≡ cell_of s.grid to) where
-        pub link-no-to : z ≡ Nothing
-            → (linked_in s (Lost 0) w ≡ link_path s (wall_in s w) vs lens m allowed from to) × (Only 0 (15 * cells_of) u u × Only (10 * cells_of) (23 * cells_of) w w)
+      module _ (x : Option (ℕ × ℕ)) (X : x ≡ cell_of s.grid from) (i j : ℕ) (I : x ≡ Some (i, j)) (z : Option (ℕ × ℕ)) (Z : z ≡ cell_of s.grid to) where
+        pub link-no-to : z ≡ None
+            → (linked_in s (route None 0) w ≡ link_path s (wall_in s w) vs lens m allowed from to) × (Only 0 (15 * cells_of) u u × Only (10 * cells_of) (23 * cells_of) w w)
         unfolding between_of
         link-no-to d = (
-          sym (ap (λ (y : Found). between_of s (wall_in s w) vs lens m allowed from to y z) I ∙ ap (between_of s (wall_in s w) vs lens m allowed from to (At i j)) d) ∙ by_cells x z X Z,
+          sym (ap (λ (y : Option (ℕ × ℕ)). between_of s (wall_in s w) vs lens m allowed from to y z) I ∙ ap (between_of s (wall_in s w) vs lens m allowed from to (Some (i, j))) d) ∙ by_cells x z X Z,
           (none_u, none_w),
         )
 
-        pub link_around : (p q : ℕ) → z ≡ At p q → (l : Lattice) → l ≡ lattice_of s i j p q → (r : Linked) → r ≡ around_of s (wall_in s w) vs lens m allowed from to l
+        pub link_around : (p q : ℕ) → z ≡ Some (p, q) → (l : Lattice) → l ≡ lattice_of s i j p q → (r : Linked) → r ≡ around_of s (wall_in s w) vs lens m allowed from to l
             → r ≡ link_path s (wall_in s w) vs lens m allowed from to
         unfolding between_of
         link_around p q d l D r R =
             R ∙ ap (around_of s (wall_in s w) vs lens m allowed from to) D
-            ∙ sym (ap (λ (y : Found). between_of s (wall_in s w) vs lens m allowed from to y z) I ∙ ap (between_of s (wall_in s w) vs lens m allowed from to (At i j)) d) ∙ by_cells x z X Z
+            ∙ sym (ap (λ (y : Option (ℕ × ℕ)). between_of s (wall_in s w) vs lens m allowed from to y z) I ∙ ap (between_of s (wall_in s w) vs lens m allowed from to (Some (i, j))) d) ∙ by_cells x z X Z
 
 -- the lattice of two cells of the raster
 pub lattice_grid : (s : Setup) (i j p q : ℕ) (l : Lattice) → l ≡ lattice_of s i j p q → l.grid ≡ s.grid

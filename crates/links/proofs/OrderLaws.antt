@@ -10,7 +10,7 @@ use Rattle.loops.specs.Least.{then_by}
 use Rattle.loops.proofs.Cases.{by_cases}
 use Rattle.loops.proofs.LeastLaws.{Ordered, itself, lower_ordered, then_ordered, then_equal}
 use Rattle.numbers.specs.Order.{rank_of, total_of}
-use Rattle.numbers.specs.declared.order.Ordering.{Ordering}
+use Rattle.std.specs.declared.cmp.Ordering.{Ordering}
 use Rattle.numbers.proofs.OrderLaws.{rank_one}
 use Rattle.links.specs.declared.heap.Entry.{Entry}
 use Rattle.links.specs.Heap.{before_of, settled}

@@ -23,8 +23,7 @@ use Rattle.geom.specs.declared.vec2.Vec2.{Vec2}
 use Rattle.links.specs.declared.NodeNo.{NodeNo}
 use Rattle.links.specs.declared.heap.Entry.{Entry}
 use Rattle.links.specs.declared.lattice.Lattice.{Lattice}
-use Rattle.links.specs.declared.lattice.Neighbour.{Neighbour}
-use Rattle.links.specs.declared.lattice.Neighbour.TheVariants.{Off, At}
+use Rattle.std.specs.Prelude.{Option, Some, None}
 use Rattle.links.specs.declared.search.Turn.{Turn}
 use Rattle.links.specs.declared.search.Turn.TheVariants.{On, Out}
 use Rattle.links.specs.Heap.{insert, one, count, listed}
@@ -126,10 +125,10 @@ module _ (l : Lattice) (L : Laid l) where
     unfolding offer_of
     sound_offer v t s A B S = by_test (Sound (nodes l)) (lt (candidate l v t s.cost) (get_or s.cost t.0 nan)) _ s (λ _. sound_improved (nodes l) v _ _ s A B S) (λ _. S)
 
-    sound_at : (v : NodeNo) (d : ℕ) (s : Search) (b : Neighbour) → b ≡ beside_of l v d → IsNode l v → Sound (nodes l) s → Sound (nodes l) (visit_at l allowed squares v b s)
+    sound_at : (v : NodeNo) (d : ℕ) (s : Search) (b : Option NodeNo) → b ≡ beside_of l v d → IsNode l v → Sound (nodes l) s → Sound (nodes l) (visit_at l allowed squares v b s)
     unfolding visit_at
-    sound_at v d s Off e A S = S
-    sound_at v d s (At t) e A S = by_test (Sound (nodes l)) (reachable l allowed squares t) (offer_of l v t s) s (λ _. sound_offer v t s A (beside_node l v t d (At t) e refl) S) (λ _. S)
+    sound_at v d s None e A S = S
+    sound_at v d s (Some t) e A S = by_test (Sound (nodes l)) (reachable l allowed squares t) (offer_of l v t s) s (λ _. sound_offer v t s A (beside_node l v t d (Some t) e refl) S) (λ _. S)
 
     sound_expand : (v : NodeNo) (s : Search) → IsNode l v → Sound (nodes l) s → Sound (nodes l) (expand_of l allowed squares v s)
     unfolding expand_of visit_of
@@ -358,11 +357,11 @@ module _ (l : Lattice) (L : Laid l) (u : List ℕ) (costs : List Float) (A : 15 
 -- ---- by words that tell the nodes as the squares do
 
 module _ (l : Lattice) (allowed squares words : List ℕ) (T : Telling l squares words) where
-  visit_same : (v : NodeNo) (d : ℕ) (s : Search) (b : Neighbour) → b ≡ beside_of l v d → visit_at l allowed words v b s ≡ visit_at l allowed squares v b s
+  visit_same : (v : NodeNo) (d : ℕ) (s : Search) (b : Option NodeNo) → b ≡ beside_of l v d → visit_at l allowed words v b s ≡ visit_at l allowed squares v b s
   unfolding visit_at reachable node_free
-  visit_same v d s Off e = refl
-  visit_same v d s (At t) e =
-      ap (λ (b : Bool). cond (eqb t.0 l.goal.0 || (eqb (get_or allowed (cell_of_node l t).0 0) 1 && b)) (offer_of l v t s) s) (T.node t (beside_node l v t d (At t) e refl))
+  visit_same v d s None e = refl
+  visit_same v d s (Some t) e =
+      ap (λ (b : Bool). cond (eqb t.0 l.goal.0 || (eqb (get_or allowed (cell_of_node l t).0 0) 1 && b)) (offer_of l v t s) s) (T.node t (beside_node l v t d (Some t) e refl))
 
   expand_same : (v : NodeNo) (s : Search) → expand_of l allowed words v s ≡ expand_of l allowed squares v s
   unfolding expand_of visit_of

@@ -19,81 +19,79 @@ use Rattle.geom.proofs.PointLaws.{put-length, put_there, points-length, points_m
 use Rattle.setup.specs.Place.{Walls}
 use Rattle.setup.specs.Tables.{Tables}
 use Rattle.setup.specs.declared.Setup.{Setup}
-use Rattle.links.specs.declared.path.Seen.{Seen}
-use Rattle.links.specs.declared.path.Seen.TheVariants.{Nothing, Point}
-use Rattle.links.specs.declared.path.Shortened.TheVariants.{Blocked, Points}
+use Rattle.std.specs.Prelude.{Option, Some, None}
 use Rattle.links.specs.Straight.{link_clear}
 use Rattle.links.specs.Path.{farthest_of, lost, way, onward, shorten_from, point_in, shorten_of, path_in, clear_in, Fitted, short_in}
 
 -- ---- the farthest in view
 
 module _ (clear : Vec2 → Vec2 → Bool) (pt : ℕ → Vec2) (here : Vec2) (first : ℕ) where
-  pub far_none : (k : ℕ) → k ≤ first → Nothing ≡ farthest_of clear pt here first (k - first)
+  pub far_none : (k : ℕ) → k ≤ first → None ≡ farthest_of clear pt here first (k - first)
   unfolding farthest_of
   far_none k h = ap (farthest_of clear pt here first) (let z : 0 ≡ k - first = omega arith in z)
 
-  far-step : (n : ℕ) (k : ℕ) → k ≡ first + n → (t : Bool) → t ≡ clear here (pt k) → farthest_of clear pt here first (suc n) ≡ cond t (Point k) (farthest_of clear pt here first n)
+  far-step : (n : ℕ) (k : ℕ) → k ≡ first + n → (t : Bool) → t ≡ clear here (pt k) → farthest_of clear pt here first (suc n) ≡ cond t (Some k) (farthest_of clear pt here first n)
   unfolding farthest_of
   far-step n k K t T = rw (T, K)
 
   module _ (k : ℕ) (h : first < k) (t : Bool) (T : t ≡ clear here (pt (k - 1))) where
-    step : farthest_of clear pt here first (k - first) ≡ cond t (Point (k - 1)) (farthest_of clear pt here first (k - 1 - first))
+    step : farthest_of clear pt here first (k - first) ≡ cond t (Some (k - 1)) (farthest_of clear pt here first (k - 1 - first))
     step = ap (farthest_of clear pt here first) (let z : k - first ≡ suc (k - 1 - first) = omega arith in z) ∙ far-step (k - 1 - first) (k - 1) (omega arith) t T
 
-    pub far-found : t ≡ true → Point (k - 1) ≡ farthest_of clear pt here first (k - first)
-    far-found e = sym (step ∙ ap (λ (b : Bool). cond b (Point (k - 1)) (farthest_of clear pt here first (k - 1 - first))) e)
+    pub far-found : t ≡ true → Some (k - 1) ≡ farthest_of clear pt here first (k - first)
+    far-found e = sym (step ∙ ap (λ (b : Bool). cond b (Some (k - 1)) (farthest_of clear pt here first (k - 1 - first))) e)
 
     pub far_more : t ≡ false → farthest_of clear pt here first (k - 1 - first) ≡ farthest_of clear pt here first (k - first)
-    far_more e = sym (step ∙ ap (λ (b : Bool). cond b (Point (k - 1)) (farthest_of clear pt here first (k - 1 - first))) e)
+    far_more e = sym (step ∙ ap (λ (b : Bool). cond b (Some (k - 1)) (farthest_of clear pt here first (k - 1 - first))) e)
 
 -- a point with its number moved on
-shifted : ℕ → Seen → Seen
-shifted a Nothing = Nothing
-shifted a (Point k) = Point (a + k)
+shifted : ℕ → Option ℕ → Option ℕ
+shifted a None = None
+shifted a (Some k) = Some (a + k)
 
 far_shift : (clear : Vec2 → Vec2 → Bool) (pt pt' : ℕ → Vec2) (here : Vec2) (a first n : ℕ) → ((k : ℕ) → first ≤ k → k < first + n → pt' (a + k) ≡ pt k)
     → farthest_of clear pt' here (a + first) n ≡ shifted a (farthest_of clear pt here first n)
 unfolding farthest_of shifted
 far_shift clear pt pt' here a first zero h = refl
 far_shift clear pt pt' here a first (suc n) h =
-    ap (λ (k : ℕ). cond (clear here (pt' k)) (Point k) (farthest_of clear pt' here (a + first) n)) (let z : a + first + n ≡ a + (first + n) = omega arith in z)
-    ∙ ap (λ (q : Vec2). cond (clear here q) (Point (a + (first + n))) (farthest_of clear pt' here (a + first) n)) (h (first + n) (omega arith) (omega arith))
-    ∙ ap (cond (clear here (pt (first + n))) (Point (a + (first + n)))) (far_shift clear pt pt' here a first n (λ k b c. h k b (omega arith)))
+    ap (λ (k : ℕ). cond (clear here (pt' k)) (Some k) (farthest_of clear pt' here (a + first) n)) (let z : a + first + n ≡ a + (first + n) = omega arith in z)
+    ∙ ap (λ (q : Vec2). cond (clear here q) (Some (a + (first + n))) (farthest_of clear pt' here (a + first) n)) (h (first + n) (omega arith) (omega arith))
+    ∙ ap (cond (clear here (pt (first + n))) (Some (a + (first + n)))) (far_shift clear pt pt' here a first n (λ k b c. h k b (omega arith)))
     ∙ both (clear here (pt (first + n)))
   where
-    both : (b : Bool) → cond b (Point (a + (first + n))) (shifted a (farthest_of clear pt here first n)) ≡ shifted a (cond b (Point (first + n)) (farthest_of clear pt here first n))
+    both : (b : Bool) → cond b (Some (a + (first + n))) (shifted a (farthest_of clear pt here first n)) ≡ shifted a (cond b (Some (first + n)) (farthest_of clear pt here first n))
     both true = refl
     both false = refl
 
-unshift_none : (a : ℕ) (r : Seen) → shifted a r ≡ Nothing → r ≡ Nothing
+unshift_none : (a : ℕ) (r : Option ℕ) → shifted a r ≡ None → r ≡ None
 unfolding shifted
-unshift_none a Nothing e = refl
-unshift_none a (Point k) e = absurd (subst Empty e tt)
+unshift_none a None e = refl
+unshift_none a (Some k) e = absurd (subst Empty e tt)
   where
-    Empty : Seen → Type 0
-    Empty Nothing = ⊥
-    Empty (Point k) = Unit {0}
+    Empty : Option ℕ → Type 0
+    Empty None = ⊥
+    Empty (Some k) = Unit {0}
 
-unshift : (a : ℕ) (r : Seen) (k : ℕ) → shifted a r ≡ Point k → r ≡ Point (k - a)
+unshift : (a : ℕ) (r : Option ℕ) (k : ℕ) → shifted a r ≡ Some k → r ≡ Some (k - a)
 unfolding shifted
-unshift a Nothing k e = absurd (subst Empty e tt)
+unshift a None k e = absurd (subst Empty e tt)
   where
-    Empty : Seen → Type 0
-    Empty Nothing = Unit {0}
-    Empty (Point k) = ⊥
-unshift a (Point j) k e = ap (λ (c : ℕ). Point c) (let z : j ≡ k - a = omega (arith, ap number e) in z)
+    Empty : Option ℕ → Type 0
+    Empty None = Unit {0}
+    Empty (Some k) = ⊥
+unshift a (Some j) k e = ap (λ (c : ℕ). Some c) (let z : j ≡ k - a = omega (arith, ap number e) in z)
   where
-    number : Seen → ℕ
-    number Nothing = 0
-    number (Point c) = c
+    number : Option ℕ → ℕ
+    number None = 0
+    number (Some c) = c
 
 -- by a test that answers the same
 far-clear : (clear clear' : Vec2 → Vec2 → Bool) → ((a b : Vec2) → clear a b ≡ clear' a b) → (pt : ℕ → Vec2) (here : Vec2) (first n : ℕ) → farthest_of clear pt here first n ≡ farthest_of clear' pt here first n
 unfolding farthest_of
 far-clear clear clear' h pt here first zero = refl
 far-clear clear clear' h pt here first (suc n) =
-    ap (λ (b : Bool). cond b (Point (first + n)) (farthest_of clear pt here first n)) (h here (pt (first + n)))
-    ∙ ap (cond (clear' here (pt (first + n))) (Point (first + n))) (far-clear clear clear' h pt here first n)
+    ap (λ (b : Bool). cond b (Some (first + n)) (farthest_of clear pt here first n)) (h here (pt (first + n)))
+    ∙ ap (cond (clear' here (pt (first + n))) (Some (first + n))) (far-clear clear clear' h pt here first n)
 
 -- one more point at the end
 added : (n : ℕ) (p : Vec2) (w : List Float) → 2 * n + 1 < length w → points 0 (suc n) (put_point n p w) ≡ points 0 n w ++ (p ∷ [])
@@ -101,23 +99,23 @@ added n p w h =
     ap (λ (k : ℕ). points 0 (suc n) (put_point k p w)) (let z : n ≡ 0 + n = omega arith in z) ∙ points_more 0 n p w (let z : 2 * (0 + n) + 1 < length w = omega arith in z)
 
 -- what a point in view is: one of those looked at, in view
-Sees : (Vec2 → Vec2 → Bool) → (ℕ → Vec2) → Vec2 → ℕ → ℕ → Seen → Type 0
-Sees clear pt here first n Nothing = Unit {0}
-Sees clear pt here first n (Point k) = (first ≤ k) × ((k < first + n) × (clear here (pt k) ≡ true))
+Sees : (Vec2 → Vec2 → Bool) → (ℕ → Vec2) → Vec2 → ℕ → ℕ → Option ℕ → Type 0
+Sees clear pt here first n None = Unit {0}
+Sees clear pt here first n (Some k) = (first ≤ k) × ((k < first + n) × (clear here (pt k) ≡ true))
 
 far_sees : (clear : Vec2 → Vec2 → Bool) (pt : ℕ → Vec2) (here : Vec2) (first n : ℕ) → Sees clear pt here first n (farthest_of clear pt here first n)
 unfolding farthest_of Sees
 far_sees clear pt here first zero = tt
 far_sees clear pt here first (suc n) =
-    Rattle.loops.proofs.Cases.by_test (Sees clear pt here first (suc n)) (clear here (pt (first + n))) (Point (first + n)) (farthest_of clear pt here first n)
+    Rattle.loops.proofs.Cases.by_test (Sees clear pt here first (suc n)) (clear here (pt (first + n))) (Some (first + n)) (farthest_of clear pt here first n)
     (λ e. (omega arith, (omega arith, e)))
     (λ e. wider (farthest_of clear pt here first n) (far_sees clear pt here first n))
   where
-    wider : (r : Seen) → Sees clear pt here first n r → Sees clear pt here first (suc n) r
-    wider Nothing s = tt
-    wider (Point k) s = (s.0, (omega (arith, s.1.0), s.1.1))
+    wider : (r : Option ℕ) → Sees clear pt here first n r → Sees clear pt here first (suc n) r
+    wider None s = tt
+    wider (Some k) s = (s.0, (omega (arith, s.1.0), s.1.1))
 
-pub far_in : (clear : Vec2 → Vec2 → Bool) (pt : ℕ → Vec2) (here : Vec2) (first n k : ℕ) → farthest_of clear pt here first n ≡ Point k → (first ≤ k) × ((k < first + n) × (clear here (pt k) ≡ true))
+pub far_in : (clear : Vec2 → Vec2 → Bool) (pt : ℕ → Vec2) (here : Vec2) (first n k : ℕ) → farthest_of clear pt here first n ≡ Some k → (first ≤ k) × ((k < first + n) × (clear here (pt k) ≡ true))
 unfolding Sees
 far_in clear pt here first n k e = subst (Sees clear pt here first n) e (far_sees clear pt here first n)
 
@@ -187,12 +185,12 @@ module _ (clear : Vec2 → Vec2 → Bool) (pt : ℕ → Vec2) (end : ℕ) (here 
   short-end zero h e = absurd (let z : ⊥ = omega arith in z)
   short-end (suc n) h e = rw (le-ltb first end e)
 
-  short-lost : (n : ℕ) → first < end → farthest_of clear pt here first (end - first) ≡ Nothing → lost ≡ shorten_from clear pt end n here first path
+  short-lost : (n : ℕ) → first < end → farthest_of clear pt here first (end - first) ≡ None → lost ≡ shorten_from clear pt end n here first path
   unfolding shorten_from onward
   short-lost zero h e = refl
   short-lost (suc n) h e = rw (lt-ltb first end h, e)
 
-  short_more : (n k : ℕ) → 0 < n → first < end → farthest_of clear pt here first (end - first) ≡ Point k
+  short_more : (n k : ℕ) → 0 < n → first < end → farthest_of clear pt here first (end - first) ≡ Some k
       → shorten_from clear pt end (n - 1) (pt k) (k + 1) (path ++ (pt k ∷ [])) ≡ shorten_from clear pt end n here first path
   unfolding shorten_from onward
   short_more zero k h f e = absurd (let z : ⊥ = omega arith in z)
@@ -229,13 +227,13 @@ module _ (s : Setup) (vs : List Float) (lens m : List ℕ) (w₀ : List Float) (
     pub shortening_fitted : Fitted s vs lens m w
     shortening_fitted = fitted_only s vs lens m w₀ F w S.only
 
-    pub shortening_end : end ≤ first → short_in s (Points kept) w ≡ shorten_of (clear_in s vs lens m w₀) (points at (end - at) (path_in s w₀)) from
+    pub shortening_end : end ≤ first → short_in s (Some kept) w ≡ shorten_of (clear_in s vs lens m w₀) (points at (end - at) (path_in s w₀)) from
     shortening_end h =
         short-end (clear_in s vs lens m w₀) (point_in (points at (end - at) (path_in s w₀)) from) (end - at) here (first - at) (points 0 kept (path_in s w)) (end - at + 1 - kept) (omega (arith, S.few, S.high)) (omega arith)
         ∙ S.rest
 
     -- what `farthest` answers is what the definition does, at numbers less `at`
-    module _ (h : first < end) (f : Seen) (G : f ≡ farthest_of (clear_in s vs lens m w) (vertex_of (path_in s w)) here first (end - first)) where
+    module _ (h : first < end) (f : Option ℕ) (G : f ≡ farthest_of (clear_in s vs lens m w) (vertex_of (path_in s w)) here first (end - first)) where
       seen : f ≡ shifted at (farthest_of (clear_in s vs lens m w₀) (point_in (points at (end - at) (path_in s w₀)) from) here (first - at) (end - at - (first - at)))
       seen =
           let low = S.low in
@@ -245,13 +243,13 @@ module _ (s : Setup) (vs : List Float) (lens m : List ℕ) (w₀ : List Float) (
           (λ k a b. S.later (at + k) (omega arith) ∙ sym (points_get at (end - at) k (path_in s w₀) from (omega arith)))
           ∙ ap (λ (c : ℕ). shifted at (farthest_of (clear_in s vs lens m w₀) (point_in (points at (end - at) (path_in s w₀)) from) here (first - at) c)) (let z : end - first ≡ end - at - (first - at) = omega arith in z)
 
-      pub shortening_lost : f ≡ Nothing → short_in s Blocked w ≡ shorten_of (clear_in s vs lens m w₀) (points at (end - at) (path_in s w₀)) from
+      pub shortening_lost : f ≡ None → short_in s None w ≡ shorten_of (clear_in s vs lens m w₀) (points at (end - at) (path_in s w₀)) from
       shortening_lost e =
           short-lost (clear_in s vs lens m w₀) (point_in (points at (end - at) (path_in s w₀)) from) (end - at) here (first - at) (points 0 kept (path_in s w)) (end - at + 1 - kept) (omega (arith, S.low))
           (unshift_none at _ (sym seen ∙ e))
           ∙ S.rest
 
-      module _ (k : ℕ) (e : f ≡ Point k) where
+      module _ (k : ℕ) (e : f ≡ Some k) where
         pub shortening_in : (first ≤ k) × (k < end)
         shortening_in = let z = far_in (clear_in s vs lens m w) (vertex_of (path_in s w)) here first (end - first) k (sym G ∙ e) in (z.0, omega (arith, z.1.0))
 
@@ -265,7 +263,7 @@ module _ (s : Setup) (vs : List Float) (lens m : List ℕ) (w₀ : List Float) (
             let q : p ≡ pt (k - at) =
             P ∙ S.later k i.0 ∙ ap (vertex_of (path_in s w₀)) (let z : k ≡ at + (k - at) = omega (arith, i.0) in z) ∙ sym (points_get at (end - at) (k - at) (path_in s w₀) from (omega (arith, i.0, i.1))) in
             let long = path-long s w (omega (arith, shortening_fitted.long)) in
-            let far : farthest_of (clear_in s vs lens m w₀) pt here (first - at) (end - at - (first - at)) ≡ Point (k - at) = unshift at _ k (sym seen ∙ e) in
+            let far : farthest_of (clear_in s vs lens m w₀) pt here (first - at) (end - at - (first - at)) ≡ Some (k - at) = unshift at _ k (sym seen ∙ e) in
             record {
               low = omega (arith, i.0);
               high = omega (arith, i.1);

@@ -9,12 +9,12 @@ use lib.ListN.{length, get_or}
 use lib.Ieee.{lt}
 use borrow.Author.Tests.{eq-eqb, ltb-true, ltb-false, leb-true, leb-false, le-leb, lt-leb}
 use Rattle.loops.proofs.Cases.{by_cases, or_left, or_right}
-use Rattle.numbers.specs.Small.{f1}
 use Rattle.distance.specs.Least.{far, at, MapSides}
 use Rattle.distance.specs.Nearest.{nearest, squares_of, transform_of}
 use Rattle.distance.specs.Rooted.{rooted_of}
 use Rattle.distance.specs.Limits.{scaled_of}
 use Rattle.distance.specs.declared.limits.Limit.{Limit}
+use Rattle.distance.specs.declared.limits.Threshold.{Threshold}
 use Rattle.distance.proofs.NearestLaws.{room, listed_at, transform_at, transform_long}
 use Rattle.distance.proofs.NearLaws.{square_of_lem, nearest-far, nearest-at, nearest-over}
 use Rattle.distance.proofs.LimitLaws.{beyond-is}
@@ -22,7 +22,7 @@ use Rattle.dilation.specs.Window.{Takes, Shade, Told, Shaded}
 use Rattle.dilation.specs.declared.window.Window.{Window}
 use Rattle.raster.specs.Grid.{numbered}
 use Rattle.links.specs.declared.lattice.Lattice.{Lattice}
-use Rattle.links.specs.Lattice.{along, column_of, row_of, cell_of_node, Laid, Limited, Telling}
+use Rattle.links.specs.Lattice.{along, column_of, row_of, cell_of_node, Laid, bound_of, Telling}
 use Rattle.links.specs.Search.{cells}
 use Rattle.links.proofs.LatticeLaws.{along-first, along-last, along-below, cell_below}
 
@@ -75,23 +75,25 @@ module _ (l : Lattice) (L : Laid l) (m : List ℕ) where
       or_left _ _ (eq-eqb _ _ (ap (λ (n : ℕ). n % k) (sym i) ∙ mul-add-mod_self_right a k (k / 2) ∙ mod-eq_of_lt z)))
       (λ e. let i = along-last a k ny (a * k + k / 2) refl (ltb-false (a * k + k / 2) (ny - 1) e) in or_right (eqb (along a k ny % k) (k / 2)) _ (eq-eqb (along a k ny + 1) ny (omega (arith, i))))
 
-  module _ (limit : Limit) (Q : Limited l limit) (K : Takes limit) where
+  module _ (limit : Limit) (Q : limit.threshold ≡ bound_of l.margin) (b : ℕ) (K : Takes limit b) where
     -- two squares on the same side of the limit
-    side_same : (o d : ℕ) → o ≤ far → d ≤ far → (o < limit.below → d < limit.below) → (limit.below ≤ o → limit.below ≤ d) → lt l.margin (rooted_of o) ≡ lt l.margin (rooted_of d)
+    side_same : (o d : ℕ) → o ≤ far → d ≤ far → (o < b → d < b) → (b ≤ o → b ≤ d) → lt l.margin (rooted_of o) ≡ lt l.margin (rooted_of d)
     unfolding scaled_of
     side_same o d O D f g =
-        let b = limit.below in
-        sym (beyond-is _ f1 _ _ _ b o Q K.told refl O)
+        sym (judged o O)
         ∙ by_cases (leb b o) (λ e. e ∙ sym (le-leb b d (g (leb-true b o e)))) (λ e. e ∙ sym (lt-leb b d (f (leb-false b o e))))
-        ∙ beyond-is _ f1 _ _ _ b d Q K.told refl D
+        ∙ judged d D
+      where
+        judged : (q : ℕ) → q ≤ far → leb b q ≡ lt l.margin (rooted_of q)
+        judged q A = beyond-is limit.threshold b q (limit.told b K.told) (ap (λ (t : Threshold). t.strict) Q) A ∙ ap (λ (t : Threshold). lt t.x (scaled_of t.scale q)) Q
 
     -- a word and the square of its cell
-    shade_tells : (i j o : ℕ) → Shade m nx whole 0 limit.below i j o → lt l.margin (rooted_of o) ≡ lt l.margin (rooted_of (nearest 1 m nx (at i j) ny))
+    shade_tells : (i j o : ℕ) → Shade m nx whole 0 b i j o → lt l.margin (rooted_of o) ≡ lt l.margin (rooted_of (nearest 1 m nx (at i j) ny))
     shade_tells i j o S = side_same o _ S.fits (nearest-far m nx (at i j) ny)
         (λ h. let z = S.within h in omega (arith, z.less, nearest-at m nx (at i j) ny z.column z.row z.inside.right z.inside.high z.set))
-        (λ h. nearest-over m nx (at i j) limit.below (omega arith) ny (λ x k p q e. (S.beyond h).least x k (record { low = omega arith; high = q; left = omega arith; right = p }) e))
+        (λ h. nearest-over m nx (at i j) b (omega arith) ny (λ x k p q e. (S.beyond h).least x k (record { low = omega arith; high = q; left = omega arith; right = p }) e))
 
-    pub shaded_tell : (s t : List ℕ) → Shaded m nx whole l.k (l.k / 2) 0 limit.below s t → Telling l (squares_of 1 m nx ny) t × (length t ≡ length s)
+    pub shaded_tell : (s t : List ℕ) → Shaded m nx whole l.k (l.k / 2) 0 b s t → Telling l (squares_of 1 m nx ny) t × (length t ≡ length s)
     unfolding cell_of_node numbered
     shaded_tell s t S = (
       record {

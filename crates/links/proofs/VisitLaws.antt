@@ -16,8 +16,7 @@ use Rattle.loops.proofs.FrameLaws.{back_there, back-only, only_same, only_more, 
 use Rattle.raster.specs.Grid.{Over}
 use Rattle.links.specs.declared.NodeNo.{NodeNo}
 use Rattle.links.specs.declared.lattice.Lattice.{Lattice}
-use Rattle.links.specs.declared.lattice.Neighbour.{Neighbour}
-use Rattle.links.specs.declared.lattice.Neighbour.TheVariants.{Off, At}
+use Rattle.std.specs.Prelude.{Option, Some, None}
 use Rattle.links.specs.Lattice.{nodes, node_free, beside_of, Laid}
 use Rattle.links.specs.Search.{Search, offer_of, reachable, visit_at, visit_of, search_in, Ready, Grown, cells, squares_in, words_in, Searching, Visited}
 
@@ -96,13 +95,13 @@ module _ (l : Lattice) (m : ℕ) (u : List ℕ) (costs : List Float) (S : Search
 
   -- ---- one neighbour
 
-  module _ (allowed : List ℕ) (v : NodeNo) (d : ℕ) (b : Neighbour) (B : b ≡ beside_of l v d) where
-    pub visit_off : b ≡ Off
+  module _ (allowed : List ℕ) (v : NodeNo) (d : ℕ) (b : Option NodeNo) (B : b ≡ beside_of l v d) where
+    pub visit_off : b ≡ None
         → (search_in (nodes l) m (words_in l u) costs ≡ visit_of l allowed (squares_in l u) v d (search_in (nodes l) m (words_in l u) costs)) × (Visited l m u costs u costs × (m ≤ m + 1))
     unfolding visit_of visit_at
     visit_off e = (rw (← B, e), (visited_none, omega arith))
 
-    module _ (t : NodeNo) (T : b ≡ At t) (f : Bool) (F : f ≡ reachable l allowed (squares_in l u) t) where
+    module _ (t : NodeNo) (T : b ≡ Some t) (f : Bool) (F : f ≡ reachable l allowed (squares_in l u) t) where
       pub visit_not : f ≡ false
           → (search_in (nodes l) m (words_in l u) costs ≡ visit_of l allowed (squares_in l u) v d (search_in (nodes l) m (words_in l u) costs)) × (Visited l m u costs u costs × (m ≤ m + 1))
       unfolding visit_of visit_at

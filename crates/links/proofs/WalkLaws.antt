@@ -24,8 +24,7 @@ use Rattle.geom.specs.declared.vec2.Vec2.{Vec2}
 use Rattle.links.specs.declared.NodeNo.{NodeNo}
 use Rattle.links.specs.declared.heap.Entry.{Entry}
 use Rattle.links.specs.declared.lattice.Lattice.{Lattice}
-use Rattle.links.specs.declared.lattice.Neighbour.{Neighbour}
-use Rattle.links.specs.declared.lattice.Neighbour.TheVariants.{Off, At}
+use Rattle.std.specs.Prelude.{Option, Some, None}
 use Rattle.links.specs.Heap.{count}
 use Rattle.links.specs.Lattice.{nodes, centre_of, beside_of, IsNode, Laid}
 use Rattle.links.specs.Search.{Search, st, top, no_node, started, improved, candidate, offer_of, reachable, visit_at, visit_of, expand_of, Outcome, seek_next, seek_step, ended, seek_of}
@@ -241,12 +240,12 @@ module _ (l : Lattice) (L : Laid l) where
         (λ h. mounts l s.cost s.before M v.0 t.0 A B (distance_of (centre_of l v) (centre_of l t)) (distance_unsigned (centre_of l v) (centre_of l t)) h)
         (λ _. M)
 
-    mounts_at : (v : NodeNo) (d : ℕ) (s : Search) (b : Neighbour) → b ≡ beside_of l v d → IsNode l v → Mounting l s.cost s.before
+    mounts_at : (v : NodeNo) (d : ℕ) (s : Search) (b : Option NodeNo) → b ≡ beside_of l v d → IsNode l v → Mounting l s.cost s.before
         → Mounting l (visit_at l allowed squares v b s).cost (visit_at l allowed squares v b s).before
     unfolding visit_at
-    mounts_at v d s Off e A M = M
-    mounts_at v d s (At t) e A M =
-        by_test (λ (x : Search). Mounting l x.cost x.before) (reachable l allowed squares t) (offer_of l v t s) s (λ _. mounts_offer v t s A (beside_node l v t d (At t) e refl) M) (λ _. M)
+    mounts_at v d s None e A M = M
+    mounts_at v d s (Some t) e A M =
+        by_test (λ (x : Search). Mounting l x.cost x.before) (reachable l allowed squares t) (offer_of l v t s) s (λ _. mounts_offer v t s A (beside_node l v t d (Some t) e refl) M) (λ _. M)
 
     mounts_expand : (v : NodeNo) (s : Search) → IsNode l v → Mounting l s.cost s.before → Mounting l (expand_of l allowed squares v s).cost (expand_of l allowed squares v s).before
     unfolding expand_of visit_of

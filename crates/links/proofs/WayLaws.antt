@@ -1,5 +1,6 @@
 -- What a way is: each of its points is in straight view of the one before, the first of `a`, and the last is b. It has no more points than the raster has cells.
 -- Its definition takes the job, the map and the ends, and nothing else. Assumes nothing.
+use Rattle.std.specs.Prelude.{None, Option, Some}
 use mathlib.Core.Path.{◌≡◌, refl, sym, ap, ◌∙◌, subst}
 use mathlib.Core.Bool.{Bool, true, ◌||◌}
 use mathlib.Core.List.{List, [], ◌∷◌, ◌++◌}
@@ -17,20 +18,16 @@ use Rattle.geom.proofs.PointLaws.{points-length}
 use Rattle.distance.specs.Nearest.{squares_of}
 use Rattle.raster.specs.Grid.{Sides, cell_of}
 use Rattle.raster.specs.declared.grid.Grid.{Grid}
-use Rattle.raster.specs.declared.grid.Found.{Found}
-use Rattle.raster.specs.declared.grid.Found.TheVariants.{Nothing, At}
 use Rattle.raster.proofs.GridLaws.{on-grid-at}
 use Rattle.setup.specs.declared.Setup.{Setup}
 use Rattle.links.specs.declared.lattice.Lattice.{Lattice}
-use Rattle.links.specs.declared.path.Seen.{Seen}
-use Rattle.links.specs.declared.path.Seen.TheVariants.{Nothing as Unseen, Point}
-use Rattle.links.specs.declared.link.Route.TheVariants.{Along}
+use Rattle.std.specs.Prelude.{Option, Some, None}
 use Rattle.links.specs.Lattice.{lattice_of, nodes, centre_of, Laid}
 use Rattle.links.specs.Search.{no_node, seek_of}
 use Rattle.links.specs.Straight.{link_clear}
 use Rattle.links.specs.Node.{node_no}
 use Rattle.links.specs.Path.{back_of, nodes_of, farthest_of, Way, lost, way, Chained, onward, shorten_from, point_in, shorten_of, path_in}
-use Rattle.links.specs.Link.{Linked, linked, around_of, between_of, link_path, linked_in}
+use Rattle.links.specs.Link.{route, Linked, linked, around_of, between_of, link_path, linked_in}
 use Rattle.links.proofs.LatticeLaws.{laid, nodes-few, nodes_pos}
 use Rattle.links.proofs.LinkLaws.{lattice_grid}
 use Rattle.links.proofs.ShortenLaws.{far_in}
@@ -53,11 +50,11 @@ module _ (clear : Vec2 → Vec2 → Bool) (from to : Vec2) (pt : ℕ → Vec2) (
   Leads n = (here : Vec2) (first : ℕ) (path : List Vec2) → Chained clear from path here → length path ≤ first → first ≤ end → (end ≤ first → here ≡ to) → IsWay clear from to end (shorten_from clear pt end n here first path)
 
   -- on from a point in view
-  lead_on : (n : ℕ) → Leads n → (here : Vec2) (first : ℕ) (path : List Vec2) → Chained clear from path here → length path ≤ first → first < end → (r : Seen) → farthest_of clear pt here first (end - first) ≡ r
+  lead_on : (n : ℕ) → Leads n → (here : Vec2) (first : ℕ) (path : List Vec2) → Chained clear from path here → length path ≤ first → first < end → (r : Option ℕ) → farthest_of clear pt here first (end - first) ≡ r
       → IsWay clear from to end (onward r (λ (k : ℕ). shorten_from clear pt end n (pt k) (k + 1) (path ++ (pt k ∷ []))))
   unfolding onward
-  lead_on n L here first path c l h Unseen d = tt
-  lead_on n L here first path c l h (Point k) d =
+  lead_on n L here first path c l h None d = tt
+  lead_on n L here first path c l h (Some k) d =
       let i = far_in clear pt here first (end - first) k d in
       let p = i.0 in
       let q = i.1.0 in
@@ -137,13 +134,13 @@ module _ (s : Setup) (S : Sides s.grid) (wall vs : List Float) (lens m allowed :
       (shorten_way clear a b (nodes_of l o.before b) (nodes-end l o.before b)))
       (λ _. tt)
 
-  between-way : (x z : Found) → x ≡ cell_of s.grid a → z ≡ cell_of s.grid b → IsWay clear a b n (between_of s wall vs lens m allowed a b x z).path
+  between-way : (x z : Option (ℕ × ℕ)) → x ≡ cell_of s.grid a → z ≡ cell_of s.grid b → IsWay clear a b n (between_of s wall vs lens m allowed a b x z).path
   unfolding between_of
-  between-way Nothing z X Z = tt
-  between-way (At i j) Nothing X Z = tt
-  between-way (At i j) (At p q) X Z =
-      let c = on-grid-at s.grid a (At i j) i j X refl in
-      let d = on-grid-at s.grid b (At p q) p q Z refl in
+  between-way None z X Z = tt
+  between-way (Some (i, j)) None X Z = tt
+  between-way (Some (i, j)) (Some (p, q)) X Z =
+      let c = on-grid-at s.grid a (Some (i, j)) i j X refl in
+      let d = on-grid-at s.grid b (Some (p, q)) p q Z refl in
       around_way (lattice_of s i j p q) (laid s i j p q S c.0 c.1 d.0 d.1) (lattice_grid s i j p q (lattice_of s i j p q) refl)
 
   link-is-way : IsWay clear a b n (link_path s wall vs lens m allowed a b).path
@@ -164,7 +161,7 @@ module _ (s : Setup) (S : Sides s.grid) (wall vs : List Float) (lens m allowed :
   link-few ps e = (subst (IsWay clear a b n) e link-is-way).1
 
   -- what `link_path` answers: so many points, in the path's part
-  module _ (k work : ℕ) (w : List Float) (R : linked_in s (Along k work) w ≡ link_path s wall vs lens m allowed a b) where
+  module _ (k work : ℕ) (w : List Float) (R : linked_in s (route (Some k) work) w ≡ link_path s wall vs lens m allowed a b) where
     pub route_way : (link_path s wall vs lens m allowed a b).path ≡ way (points 0 k (path_in s w))
     route_way = sym (ap (λ (l : Linked). l.path) R)
 

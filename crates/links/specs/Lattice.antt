@@ -1,23 +1,19 @@
 -- The lattice that a way is sought on, as `link_path` of adaptive.rs lays it: every k-th cell of the raster both ways, and 8 neighbours a node. Definitions only.
-use Rattle.std.specs.Prelude.{Bool, false, ◌&&◌, ◌||◌, cond, List, [], ◌∷◌, ℕ, ◌+◌, ◌-◌, ◌*◌, ◌/◌, ◌%◌, ◌<◌, min, ◌≡◌, eqb, ltb, get_or, Float}
+use Rattle.std.specs.Prelude.{Bool, false, ◌&&◌, ◌||◌, cond, List, [], ◌∷◌, ℕ, ◌+◌, ◌-◌, ◌*◌, ◌/◌, ◌%◌, ◌<◌, min, ◌≡◌, eqb, ltb, get_or, Float, Option, Some, None}
 use Rattle.std.specs.Float.{binary64}
 use Rattle.std.specs.Float.Ieee.{sub, div, lt, to_unsigned}
 use Rattle.numbers.specs.Whole.{above, round_of}
 use Rattle.numbers.specs.Order.{max_of}
 use Rattle.numbers.specs.Small.{f1, f16}
 use Rattle.geom.specs.declared.vec2.Vec2.{Vec2}
-use Rattle.distance.specs.Limits.{LimitOf}
 use Rattle.distance.specs.Rooted.{rooted_of}
 use Rattle.distance.specs.declared.limits.Threshold.{Threshold}
-use Rattle.distance.specs.declared.limits.Limit.{Limit}
 use Rattle.raster.specs.Grid.{Sides, numbered, center_of}
 use Rattle.raster.specs.declared.grid.Grid.{Grid}
 use Rattle.raster.specs.declared.grid.CellNo.{CellNo}
 use Rattle.setup.specs.declared.Setup.{Setup}
 use Rattle.links.specs.declared.NodeNo.{NodeNo}
 use Rattle.links.specs.declared.lattice.Lattice.{Lattice}
-use Rattle.links.specs.declared.lattice.Neighbour.{Neighbour}
-use Rattle.links.specs.declared.lattice.Neighbour.TheVariants.{Off, At}
 
 -- ((r / 16.0) / cell).round().max(1.0) as usize
 unfoldable pub spacing_of : Float → Float → ℕ
@@ -84,11 +80,11 @@ abbrev pub beside_y : List ℕ
 beside_y = 1 ∷ 1 ∷ 0 ∷ 2 ∷ 0 ∷ 0 ∷ 2 ∷ 2 ∷ []
 
 -- the node at (a - 1, b - 1), if the lattice has it
-unfoldable pub on_lattice : Lattice → ℕ → ℕ → Neighbour
-on_lattice l a b = cond (ltb a 1 || (ltb b 1 || (ltb l.gx a || ltb l.gy b))) Off (At (node_at l.gx (a - 1) (b - 1)))
+unfoldable pub on_lattice : Lattice → ℕ → ℕ → Option NodeNo
+on_lattice l a b = cond (ltb a 1 || (ltb b 1 || (ltb l.gx a || ltb l.gy b))) None (Some (node_at l.gx (a - 1) (b - 1)))
 
 -- neighbour d of v
-unfoldable pub beside_of : Lattice → NodeNo → ℕ → Neighbour
+unfoldable pub beside_of : Lattice → NodeNo → ℕ → Option NodeNo
 beside_of l v d = on_lattice l (v.0 % l.gx + get_or beside_x d 0) (v.0 / l.gx + get_or beside_y d 0)
 
 -- ---- what the functions ask
@@ -108,11 +104,7 @@ pub record Laid (l : Lattice) : Type 0 where
 
 -- a distance is to be at most x
 abbrev pub bound_of : Float → Threshold
-bound_of x = record { scaled = false; scale = f1; strict = false; x = x }
-
--- what the squares up to the margin are
-abbrev pub Limited : Lattice → Limit → Type 0
-Limited l m = LimitOf false f1 false l.margin m.told m.below
+bound_of x = record { scale = None; strict = false; x = x }
 
 -- the words tell of each node's cell what the squares do: whether it is farther from stock than the margin
 pub record Telling (l : Lattice) (squares words : List ℕ) : Type 0 where

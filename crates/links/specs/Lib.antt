@@ -1,5 +1,6 @@
 -- What the contracts of `links` cite.
 pub mod Node
+pub mod Ground
 pub mod Heap
 pub mod Sift
 pub mod Straight

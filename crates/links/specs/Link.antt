@@ -1,19 +1,15 @@
 -- A way of straight feeds through cleared space, `link_path` of adaptive.rs: straight, or over the lattice. It is a function of the job and the map alone. Definitions only.
-use Rattle.std.specs.Prelude.{cond, List, [], ◌∷◌, ℕ, ◌*◌, take, Float}
-use Rattle.geom.specs.Points.{points}
+use Rattle.std.specs.Prelude.{cond, List, [], ◌∷◌, ℕ, ◌*◌, take, Float, None, Option, Some}
 use Rattle.geom.specs.declared.vec2.Vec2.{Vec2}
 use Rattle.distance.specs.Nearest.{squares_of}
 use Rattle.raster.specs.Grid.{cell_of}
-use Rattle.raster.specs.declared.grid.Found.{Found}
-use Rattle.raster.specs.declared.grid.Found.TheVariants.{Nothing, At}
 use Rattle.setup.specs.declared.Setup.{Setup}
 use Rattle.links.specs.declared.lattice.Lattice.{Lattice}
 use Rattle.links.specs.declared.link.Route.{Route}
-use Rattle.links.specs.declared.link.Route.TheVariants.{Along, Lost}
 use Rattle.links.specs.Lattice.{lattice_of, nodes}
 use Rattle.links.specs.Search.{seek_of, words_in}
 use Rattle.links.specs.Straight.{link_clear}
-use Rattle.links.specs.Path.{Way, lost, way, nodes_of, shorten_of, path_in}
+use Rattle.links.specs.Path.{Way, lost, way, nodes_of, shorten_of, path_in, way_at}
 
 -- the way, if there is one, and the work of its search
 pub record Linked : Type 0 where
@@ -30,10 +26,10 @@ around_of s wall vs lens m allowed a b l =
     linked (cond o.sought.found (shorten_of (link_clear s wall vs lens m) (nodes_of l o.before b) a) lost) (o.sought.expanded * 8)
 
 -- between the cells of the ends, if both are on the raster
-unfoldable pub between_of : Setup → List Float → List Float → List ℕ → List ℕ → List ℕ → Vec2 → Vec2 → Found → Found → Linked
-between_of s wall vs lens m allowed a b Nothing z = linked lost 0
-between_of s wall vs lens m allowed a b (At i j) Nothing = linked lost 0
-between_of s wall vs lens m allowed a b (At i j) (At p q) = around_of s wall vs lens m allowed a b (lattice_of s i j p q)
+unfoldable pub between_of : Setup → List Float → List Float → List ℕ → List ℕ → List ℕ → Vec2 → Vec2 → Option (ℕ × ℕ) → Option (ℕ × ℕ) → Linked
+between_of s wall vs lens m allowed a b None z = linked lost 0
+between_of s wall vs lens m allowed a b (Some (i, j)) None = linked lost 0
+between_of s wall vs lens m allowed a b (Some (i, j)) (Some (p, q)) = around_of s wall vs lens m allowed a b (lattice_of s i j p q)
 
 unfoldable pub link_path : Setup → List Float → List Float → List ℕ → List ℕ → List ℕ → Vec2 → Vec2 → Linked
 link_path s wall vs lens m allowed a b =
@@ -41,15 +37,13 @@ link_path s wall vs lens m allowed a b =
 
 -- the way that an answer tells of, its points in the path's part of the workspace
 abbrev pub way_by : Route → List Float → Way
-way_by (Along n work) path = way (points 0 n path)
-way_by (Lost work) path = lost
+way_by r path = way_at r.points path
 
-abbrev pub work_of : Route → ℕ
-work_of (Along n work) = work
-work_of (Lost work) = work
+abbrev pub route : Option ℕ → ℕ → Route
+route points work = record { points = points; work = work }
 
 abbrev pub linked_in : Setup → Route → List Float → Linked
-linked_in s r w = linked (way_by r (path_in s w)) (work_of r)
+linked_in s r w = linked (way_by r (path_in s w)) r.work
 
 -- the nodes before, in the u32 of the search
 abbrev pub before_in : Lattice → List ℕ → List ℕ

@@ -1,5 +1,5 @@
 -- The path back from the goal and its shortening, as `link_path` of adaptive.rs has them. Definitions only.
-use Rattle.std.specs.Prelude.{◌≡◌, Bool, true, ◌||◌, cond, List, [], ◌∷◌, ◌++◌, ℕ, zero, suc, ◌+◌, ◌-◌, ◌*◌, ◌≤◌, eqb, ltb, length, get_or, Float}
+use Rattle.std.specs.Prelude.{◌≡◌, Bool, true, ◌||◌, cond, List, [], ◌∷◌, ◌++◌, ℕ, zero, suc, ◌+◌, ◌-◌, ◌*◌, ◌≤◌, eqb, ltb, length, get_or, Float, Option, Some, None}
 use Rattle.loops.specs.Regions.{within}
 use Rattle.geom.specs.Points.{points}
 use Rattle.geom.specs.declared.vec2.Vec2.{Vec2}
@@ -9,10 +9,6 @@ use Rattle.setup.specs.Place.{Walls, cells_of}
 use Rattle.setup.specs.Tables.{Tables}
 use Rattle.setup.specs.declared.Setup.{Setup}
 use Rattle.links.specs.declared.lattice.Lattice.{Lattice}
-use Rattle.links.specs.declared.path.Seen.{Seen}
-use Rattle.links.specs.declared.path.Seen.TheVariants.{Nothing, Point}
-use Rattle.links.specs.declared.path.Shortened.{Shortened}
-use Rattle.links.specs.declared.path.Shortened.TheVariants.{Blocked, Points}
 use Rattle.links.specs.Node.{node_no}
 use Rattle.links.specs.Lattice.{nodes, centre_of}
 use Rattle.links.specs.Search.{no_node}
@@ -33,9 +29,9 @@ nodes_of l before to = back_of l before (nodes l - 1) (get_or before l.goal.0 0)
 -- ---- its shortening: from each point on to the farthest in straight view
 
 -- `clear` tells whether a straight feed is clear, and `pt` is the path by its points' numbers: the last of the n points from `first` on that is in view
-unfoldable pub farthest_of : (Vec2 → Vec2 → Bool) → (ℕ → Vec2) → Vec2 → ℕ → ℕ → Seen
-farthest_of clear pt here first zero = Nothing
-farthest_of clear pt here first (suc n) = cond (clear here (pt (first + n))) (Point (first + n)) (farthest_of clear pt here first n)
+unfoldable pub farthest_of : (Vec2 → Vec2 → Bool) → (ℕ → Vec2) → Vec2 → ℕ → ℕ → Option ℕ
+farthest_of clear pt here first zero = None
+farthest_of clear pt here first (suc n) = cond (clear here (pt (first + n))) (Some (first + n)) (farthest_of clear pt here first n)
 
 -- a way by its points, or none
 pub data Way : Type 0 where
@@ -48,9 +44,9 @@ Chained clear a [] b = a ≡ b
 Chained clear a (p ∷ ps) b = (clear a p ≡ true) × Chained clear p ps b
 
 -- what follows a point in view
-unfoldable pub onward : Seen → (ℕ → Way) → Way
-onward Nothing f = lost
-onward (Point k) f = f k
+unfoldable pub onward : Option ℕ → (ℕ → Way) → Way
+onward None f = lost
+onward (Some k) f = f k
 
 -- on from `here` with the points from `first` on, the points of `path` being kept; each turn keeps one, and n is more than are left
 unfoldable pub shorten_from : (Vec2 → Vec2 → Bool) → (ℕ → Vec2) → ℕ → ℕ → Vec2 → ℕ → List Vec2 → Way
@@ -87,7 +83,11 @@ pub record Fitted (s : Setup) (vs : List Float) (lens m : List ℕ) (w : List Fl
   pub tables : Tables s (tables_in s w)
   pub long : 32 * cells_of s + 8192 ≤ length w
 
+-- a way of so many points of a path, if there is one
+abbrev pub way_at : Option ℕ → List Float → Way
+way_at None path = lost
+way_at (Some n) path = way (points 0 n path)
+
 -- the way that was kept, in the path's part
-abbrev pub short_in : Setup → Shortened → List Float → Way
-short_in s Blocked w = lost
-short_in s (Points n) w = way (points 0 n (path_in s w))
+abbrev pub short_in : Setup → Option ℕ → List Float → Way
+short_in s kept w = way_at kept (path_in s w)

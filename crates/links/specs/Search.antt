@@ -1,5 +1,5 @@
 -- The search for a way over the lattice, as `link_path` of adaptive.rs does it (A* with 8 neighbours): `cost` is the Rust's `g`, `before` its `from`. Definitions only.
-use Rattle.std.specs.Prelude.{◌≡◌, Bool, true, false, ◌||◌, cond, List, [], ◌∷◌, ℕ, ◌+◌, ◌*◌, ◌≤◌, ◌<◌, eqb, ltb, leb, length, get_or, set, take, replicate, Float}
+use Rattle.std.specs.Prelude.{◌≡◌, Bool, true, false, ◌||◌, cond, List, [], ◌∷◌, ℕ, ◌+◌, ◌*◌, ◌≤◌, ◌<◌, eqb, ltb, leb, length, get_or, set, take, replicate, Float, Option, Some, None}
 use Rattle.std.specs.Float.{nan, binary64}
 use Rattle.std.specs.Float.Ieee.{of_bits, add, lt}
 use Rattle.loops.specs.Loop.{loop, Run, on, out, turn}
@@ -10,8 +10,6 @@ use Rattle.setup.specs.Layout.{before_from, segments_from}
 use Rattle.links.specs.declared.NodeNo.{NodeNo}
 use Rattle.links.specs.declared.heap.Entry.{Entry}
 use Rattle.links.specs.declared.lattice.Lattice.{Lattice}
-use Rattle.links.specs.declared.lattice.Neighbour.{Neighbour}
-use Rattle.links.specs.declared.lattice.Neighbour.TheVariants.{Off, At}
 use Rattle.links.specs.declared.search.Sought.{Sought}
 use Rattle.links.specs.declared.search.Turn.{Turn}
 use Rattle.links.specs.declared.search.Turn.TheVariants.{On, Out}
@@ -69,9 +67,9 @@ offer_of l v t s =
 unfoldable pub reachable : Lattice → List ℕ → List ℕ → NodeNo → Bool
 reachable l allowed squares t = eqb t.0 l.goal.0 || node_free l allowed squares t
 
-unfoldable pub visit_at : Lattice → List ℕ → List ℕ → NodeNo → Neighbour → Search → Search
-visit_at l allowed squares v Off s = s
-visit_at l allowed squares v (At t) s = cond (reachable l allowed squares t) (offer_of l v t s) s
+unfoldable pub visit_at : Lattice → List ℕ → List ℕ → NodeNo → Option NodeNo → Search → Search
+visit_at l allowed squares v None s = s
+visit_at l allowed squares v (Some t) s = cond (reachable l allowed squares t) (offer_of l v t s) s
 
 unfoldable pub visit_of : Lattice → List ℕ → List ℕ → NodeNo → ℕ → Search → Search
 visit_of l allowed squares v d s = visit_at l allowed squares v (beside_of l v d) s

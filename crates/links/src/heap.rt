@@ -4,8 +4,8 @@ ghost use Rattle.std.specs.Prelude.{◌≡◌, ◌+◌, ◌*◌, ◌<◌, set};
 ghost use Rattle.links.specs.Heap.{before_of, entry_at, Lent, Ordered, Pushed, Popped};
 ghost use Rattle.links.specs.Sift.{Risen, Lesser, Sunk};
 
-use super::{NodeNo, index_of_node, node_in, put_node};
-use numbers::order::Ordering;
+use super::{NodeNo, node_in, put_node};
+use std::cmp::Ordering;
 
 #[derive(Clone, Copy)]
 pub struct Entry {
@@ -13,6 +13,7 @@ pub struct Entry {
     pub node: NodeNo,
 }
 
+// No `Ord`: a float derives none, and two plain comparisons settle nearly all.
 pub fn before(a: Entry, b: Entry) -> bool
     ensures { result ≡ before_of a b }
 {
@@ -26,7 +27,7 @@ pub fn before(a: Entry, b: Entry) -> bool
     let o = numbers::order::total_cmp(a.est, b.est);
     match o {
         Ordering::Less => true,
-        Ordering::Equal => index_of_node(a.node) < index_of_node(b.node),
+        Ordering::Equal => usize::from(a.node) < usize::from(b.node),
         Ordering::Greater => false,
     }
 }
@@ -56,6 +57,7 @@ fn rise(ests: &mut [f64], nodes: &mut [u32], n: usize, e: Entry) -> usize
     requires ordered { Ordered (entry_at ests.old nodes.old) n }
     ensures { Risen ests.old nodes.old n e ests.new nodes.new result }
 {
+    // The hole goes from child to parent, which no range does.
     let mut k = n;
     while 0 < k {
         let up = (k - 1) / 2;
@@ -102,6 +104,7 @@ fn sink(ests: &mut [f64], nodes: &mut [u32], n: usize, e: Entry) -> usize
     requires e_value { e ≡ entry_at ests.old nodes.old n }
     ensures { Sunk ests.old nodes.old n e ests.new nodes.new result }
 {
+    // The hole goes from parent to child, which no range does.
     let mut k = 0;
     while 2 * k + 1 < n {
         let c = child(ests, nodes, n, k);

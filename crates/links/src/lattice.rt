@@ -3,9 +3,9 @@ ghost use Rattle.std.specs.Prelude.{◌≡◌, ◌*◌, ◌≤◌, ◌<◌, leng
 ghost use Rattle.numbers.specs.Whole.{above};
 ghost use Rattle.raster.specs.Grid.{Sides, Over};
 ghost use Rattle.links.specs.Lattice.{spacing_of, along, centre_at, node_at, lattice_of, nodes, cell_of_node, centre_of, node_free};
-ghost use Rattle.links.specs.Lattice.{beside_x, beside_y, on_lattice, beside_of, IsNode, Laid, bound_of, Limited};
+ghost use Rattle.links.specs.Lattice.{beside_x, beside_y, on_lattice, beside_of, IsNode, Laid, bound_of};
 
-use super::{NodeNo, index_of_node};
+use super::NodeNo;
 use distance::limits::{Limit, Threshold};
 use geom::vec2::Vec2;
 use raster::grid::{CellNo, Grid};
@@ -22,13 +22,6 @@ pub struct Lattice {
     pub goal: NodeNo,
     pub end: Vec2,
     pub margin: f64,
-}
-
-// A neighbour, or none there.
-#[derive(Clone, Copy)]
-pub enum Neighbour {
-    Off,
-    At(NodeNo),
 }
 
 fn spacing(r: f64, cell: f64) -> usize
@@ -80,7 +73,7 @@ fn node_at(gx: usize, gi: usize, gj: usize) -> NodeNo
 }
 
 // The lattice for a way from the cell (i, j) to the cell (p, q).
-pub fn lattice_of(s: Setup, i: usize, j: usize, p: usize, q: usize) -> Lattice
+fn lattice_of(s: Setup, i: usize, j: usize, p: usize, q: usize) -> Lattice
     requires sides { Sides s.grid }
     requires i_lt_nx { i < s.grid.nx }
     requires j_lt_ny { j < s.grid.ny }
@@ -108,69 +101,6 @@ pub fn lattice_of(s: Setup, i: usize, j: usize, p: usize, q: usize) -> Lattice
     }
 }
 
-pub fn nodes_of(l: Lattice) -> usize
-    requires { Laid l }
-    ensures { result ≡ nodes l }
-{
-    l.gy * l.gx
-}
-
-pub fn cell_of_node(l: Lattice, v: NodeNo) -> CellNo
-    requires laid { Laid l }
-    requires node { IsNode l v }
-    ensures { result ≡ cell_of_node l v }
-{
-    let g = l.grid;
-    let a = index_of_node(v);
-    let i = cell_along(a % l.gx, l.k, g.nx);
-    let j = cell_along(a / l.gx, l.k, g.ny);
-    raster::grid::cell_no(g, i, j)
-}
-
-pub fn centre(l: Lattice, v: NodeNo) -> Vec2
-    requires laid { Laid l }
-    requires node { IsNode l v }
-    ensures { result ≡ centre_of l v }
-{
-    let g = l.grid;
-    let a = index_of_node(v);
-    centre_at(g, l.k, a % l.gx, a / l.gx)
-}
-
-fn bound_of(x: f64) -> Threshold
-    ensures { result ≡ bound_of x }
-{
-    Threshold {
-        scaled: false,
-        scale: 1.0,
-        strict: false,
-        x,
-    }
-}
-
-// What tells by its square whether a distance is above the margin.
-pub fn limit_of(l: Lattice) -> Limit
-    ensures { Limited l result }
-{
-    distance::limits::limit_of(bound_of(l.margin))
-}
-
-// The node's cell is allowed, and farther from stock than the margin.
-pub fn node_free(l: Lattice, limit: Limit, allowed: &[u8], squares: &[u32], v: NodeNo) -> bool
-    requires laid { Laid l }
-    requires node { IsNode l v }
-    requires limited { Limited l limit }
-    requires over { Over l.grid (length allowed.now) }
-    requires over_2 { Over l.grid (length squares.now) }
-    ensures { result ≡ node_free l allowed.now squares.now v }
-{
-    let k = raster::grid::index_of(cell_of_node(l, v));
-    if allowed[k] == 1 {
-        return distance::limits::beyond(bound_of(l.margin), limit, squares[k]);
-    }
-    false
-}
-
 // A neighbour's column and row from its node's, one more each.
 const BESIDE_X: [usize; 8] = [0, 2, 1, 1, 0, 2, 0, 2];
 
@@ -190,35 +120,104 @@ fn step_y(d: usize) -> usize
     BESIDE_Y[d]
 }
 
-// The node at (a - 1, b - 1).
-fn on_lattice(l: Lattice, a: usize, b: usize) -> Neighbour
-    requires { Laid l }
-    ensures { result ≡ on_lattice l a b }
-{
-    if a < 1 {
-        return Neighbour::Off;
-    }
-    if b < 1 {
-        return Neighbour::Off;
-    }
-    if l.gx < a {
-        return Neighbour::Off;
-    }
-    if l.gy < b {
-        return Neighbour::Off;
-    }
-    Neighbour::At(node_at(l.gx, a - 1, b - 1))
+// A lattice that is laid over a raster, and what tells by its square whether a distance is above its margin.
+#[derive(Clone, Copy)]
+pub struct Net {
+    pub lattice: Lattice,
+    pub limit: Limit,
+    ghost laid: { Laid lattice },
+    ghost bound: { limit.threshold ≡ bound_of lattice.margin },
 }
 
-// Neighbour d.
-pub fn beside(l: Lattice, v: NodeNo, d: usize) -> Neighbour
-    requires laid { Laid l }
-    requires node { IsNode l v }
-    requires d_bound { d < 8 }
-    ensures { result ≡ beside_of l v d }
-{
-    let i = index_of_node(v);
-    let a = i % l.gx + step_x(d);
-    let b = i / l.gx + step_y(d);
-    on_lattice(l, a, b)
+impl Net {
+    // For a way from the cell (i, j) to the cell (p, q).
+    pub fn of(s: Setup, i: usize, j: usize, p: usize, q: usize) -> Net
+        requires sides { Sides s.grid }
+        requires i_lt_nx { i < s.grid.nx }
+        requires j_lt_ny { j < s.grid.ny }
+        requires p_lt_nx { p < s.grid.nx }
+        requires q_lt_ny { q < s.grid.ny }
+        ensures { result.lattice ≡ lattice_of s i j p q }
+    {
+        let lattice = lattice_of(s, i, j, p, q);
+        let limit = Limit::of(Threshold {
+            scale: None,
+            strict: false,
+            x: lattice.margin,
+        });
+        Net { lattice, limit }
+    }
+
+    pub fn nodes(self) -> usize
+        ensures { result ≡ nodes self.lattice }
+    {
+        self.lattice.gy * self.lattice.gx
+    }
+
+    pub fn cell_of_node(self, v: NodeNo) -> CellNo
+        requires { IsNode self.lattice v }
+        ensures { result ≡ cell_of_node self.lattice v }
+    {
+        let l = self.lattice;
+        let g = l.grid;
+        let a = usize::from(v);
+        let i = cell_along(a % l.gx, l.k, g.nx);
+        let j = cell_along(a / l.gx, l.k, g.ny);
+        raster::grid::cell_no(g, i, j)
+    }
+
+    pub fn centre(self, v: NodeNo) -> Vec2
+        requires { IsNode self.lattice v }
+        ensures { result ≡ centre_of self.lattice v }
+    {
+        let l = self.lattice;
+        let a = usize::from(v);
+        centre_at(l.grid, l.k, a % l.gx, a / l.gx)
+    }
+
+    // The node's cell is allowed, and farther from stock than the margin.
+    pub fn node_free(self, allowed: &[u8], squares: &[u32], v: NodeNo) -> bool
+        requires node { IsNode self.lattice v }
+        requires over { Over self.lattice.grid (length allowed.now) }
+        requires over_2 { Over self.lattice.grid (length squares.now) }
+        ensures { result ≡ node_free self.lattice allowed.now squares.now v }
+    {
+        let k = raster::grid::index_of(self.cell_of_node(v));
+        if allowed[k] == 1 {
+            return self.limit.beyond(squares[k]);
+        }
+        false
+    }
+
+    // The node at (a - 1, b - 1).
+    fn on_lattice(self, a: usize, b: usize) -> Option<NodeNo>
+        ensures { result ≡ on_lattice self.lattice a b }
+    {
+        let l = self.lattice;
+        if a < 1 {
+            return None;
+        }
+        if b < 1 {
+            return None;
+        }
+        if l.gx < a {
+            return None;
+        }
+        if l.gy < b {
+            return None;
+        }
+        Some(node_at(l.gx, a - 1, b - 1))
+    }
+
+    // Neighbour d.
+    pub fn beside(self, v: NodeNo, d: usize) -> Option<NodeNo>
+        requires node { IsNode self.lattice v }
+        requires d_bound { d < 8 }
+        ensures { result ≡ beside_of self.lattice v d }
+    {
+        let i = usize::from(v);
+        let a = i % self.lattice.gx + step_x(d);
+        let b = i / self.lattice.gx + step_y(d);
+        self.on_lattice(a, b)
+    }
 }

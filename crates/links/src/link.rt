@@ -7,90 +7,71 @@ ghost use Rattle.raster.specs.Grid.{Over};
 ghost use Rattle.rims.specs.Tiles.{Tiled};
 ghost use Rattle.setup.specs.Layout.{before_from, cost_from, path_end, path_from, segments_from};
 ghost use Rattle.setup.specs.Place.{cells_of};
-ghost use Rattle.links.specs.Lattice.{nodes, Laid, Limited, Telling};
+ghost use Rattle.links.specs.Lattice.{nodes, Telling};
 ghost use Rattle.links.specs.Search.{seek_of, cells, Befores, outcome_in};
 ghost use Rattle.links.specs.Path.{nodes_of, shorten_of, wall_in, clear_in, Fitted, short_in};
-ghost use Rattle.links.specs.Link.{around_of, link_path, linked_in, work_of, before_in};
+ghost use Rattle.links.specs.Link.{around_of, link_path, linked_in, before_in};
 
-use super::lattice::{Lattice, lattice_of, limit_of, nodes_of};
-use super::path::Shortened;
-use super::search::Sought;
+use super::lattice::Net;
+use super::search::{Seeker, Sought};
 use dilation::window::{Bounds, Window};
-use distance::limits::Limit;
 use geom::vec2::Vec2;
-use raster::grid::Found;
 use setup::{Setup, layout};
 
-// A way of so many points, or none; and the work of its search.
+// How many points a way has, if there is one, and the work of its search.
 #[derive(Clone, Copy)]
-pub enum Route {
-    Along(usize, usize),
-    Lost(usize),
-}
-
-pub fn work_of(r: Route) -> usize
-    ensures { result ≡ work_of r }
-{
-    match r {
-        Route::Along(_, work) => work,
-        Route::Lost(work) => work,
-    }
+pub struct Route {
+    pub points: Option<usize>,
+    pub work: usize,
 }
 
 // By a dilation of stock that tells only the rows of nodes, and the last.
-fn shade_nodes(l: Lattice, limit: Limit, map: &[u8], work: &mut [u32])
-    requires laid { Laid l }
-    requires limited { Limited l limit }
-    requires takes { Takes limit }
-    requires over { Over l.grid (length map.now) }
-    requires l_in_bounds { cells l ≤ length work.old }
-    ensures telling { Telling l (squares_of 1 map.now l.grid.nx l.grid.ny) work.new }
+fn shade_nodes(net: Net, far: u32, map: &[u8], work: &mut [u32])
+    requires takes { Takes net.limit far }
+    requires over { Over net.lattice.grid (length map.now) }
+    requires l_in_bounds { cells net.lattice ≤ length work.old }
+    ensures telling { Telling net.lattice (squares_of 1 map.now net.lattice.grid.nx net.lattice.grid.ny) work.new }
     ensures work_len_unchanged { length work.new ≡ length work.old }
 {
+    let l = net.lattice;
     let w = Window {
         lo: 0,
         hi: l.grid.ny,
         left: 0,
         right: l.grid.nx,
     };
-    let b = Bounds {
-        near: 0,
-        far: limit.below,
-    };
+    let b = Bounds { near: 0, far };
     dilation::window::shade(map, l.grid.nx, w, l.k, l.k / 2, b, work);
 }
 
 // Words that tell the nodes as the squares of the distance to stock do: a dilation's, where it takes the limit.
-fn tell_nodes(l: Lattice, limit: Limit, map: &[u8], work: &mut [u32])
-    requires laid { Laid l }
-    requires limited { Limited l limit }
-    requires over { Over l.grid (length map.now) }
-    requires l_in_bounds { before_from (cells l) ≤ length work.old }
-    ensures telling { Telling l (squares_of 1 map.now l.grid.nx l.grid.ny) work.new }
+fn tell_nodes(net: Net, map: &[u8], work: &mut [u32])
+    requires over { Over net.lattice.grid (length map.now) }
+    requires l_in_bounds { before_from (cells net.lattice) ≤ length work.old }
+    ensures telling { Telling net.lattice (squares_of 1 map.now net.lattice.grid.nx net.lattice.grid.ny) work.new }
     ensures work_len_unchanged { length work.new ≡ length work.old }
 {
-    if dilation::window::takes(limit) {
-        shade_nodes(l, limit, map, work);
+    if let Some(far) = dilation::window::bound(net.limit) {
+        shade_nodes(net, far, map, work);
         return;
     }
-    distance::transform(map, 1, l.grid.nx, l.grid.ny, work);
+    let g = net.lattice.grid;
+    distance::transform(map, 1, g.nx, g.ny, work);
 }
 
 // What tells the nodes, then the search.
-fn search(l: Lattice, map: &[u8], allowed: &[u8], u: &mut [u32], costs: &mut [f64]) -> Sought
-    requires laid { Laid l }
-    requires over { Over l.grid (length map.now) }
-    requires over_2 { Over l.grid (length allowed.now) }
-    requires l_in_bounds { segments_from (cells l) ≤ length u.old }
-    requires l_in_bounds_2 { 10 * cells l ≤ length costs.old }
-    ensures u_after { outcome_in l result u.new ≡ seek_of l allowed.now (squares_of 1 map.now l.grid.nx l.grid.ny) }
-    ensures only { Only 0 (segments_from (cells l)) u.old u.new }
+fn search(net: Net, map: &[u8], allowed: &[u8], u: &mut [u32], costs: &mut [f64]) -> Sought
+    requires over { Over net.lattice.grid (length map.now) }
+    requires over_2 { Over net.lattice.grid (length allowed.now) }
+    requires l_in_bounds { segments_from (cells net.lattice) ≤ length u.old }
+    requires l_in_bounds_2 { 10 * cells net.lattice ≤ length costs.old }
+    ensures u_after { outcome_in net.lattice result u.new ≡ seek_of net.lattice allowed.now (squares_of 1 map.now net.lattice.grid.nx net.lattice.grid.ny) }
+    ensures only { Only 0 (segments_from (cells net.lattice)) u.old u.new }
     ensures costs_len_unchanged { length costs.new ≡ length costs.old }
 {
-    let end = layout::before(layout::cells(l.grid));
-    let limit = limit_of(l);
-    tell_nodes(l, limit, map, &mut u[0..end]);
-    super::search::seek(l, limit, allowed, u, costs)
+    let end = layout::before(layout::cells(net.lattice.grid));
+    tell_nodes(net, map, &mut u[0..end]);
+    Seeker { net, allowed }.seek(u, costs)
 }
 
 // The path of a search that reached the goal, laid and shortened.
@@ -102,26 +83,25 @@ fn trace(
     tiles: &[u8],
     u: &[u32],
     w: &mut [f64],
-    l: Lattice,
+    net: Net,
     from: Vec2,
     to: Vec2,
-) -> Shortened
+) -> Option<usize>
     requires fitted { Fitted s vs.now lens.now map.now w.old }
     requires tiled { Tiled s.grid map.now tiles.now }
-    requires laid { Laid l }
-    requires grid_value { l.grid ≡ s.grid }
-    requires l_in_bounds { segments_from (cells l) ≤ length u.now }
-    requires befores { Befores (nodes l) (before_in l u.now) }
-    ensures w_after { short_in s result w.new ≡ shorten_of (clear_in s vs.now lens.now map.now w.old) (nodes_of l (before_in l u.now) to) from }
+    requires grid_value { net.lattice.grid ≡ s.grid }
+    requires l_in_bounds { segments_from (cells net.lattice) ≤ length u.now }
+    requires befores { Befores (nodes net.lattice) (before_in net.lattice u.now) }
+    ensures w_after { short_in s result w.new ≡ shorten_of (clear_in s vs.now lens.now map.now w.old) (nodes_of net.lattice (before_in net.lattice u.now) to) from }
     ensures only { Only (path_from (cells_of s)) (path_end (cells_of s)) w.old w.new }
 {
-    let n = nodes_of(l);
-    let first = layout::before(layout::cells(l.grid));
+    let n = net.nodes();
+    let first = layout::before(layout::cells(net.lattice.grid));
     let last = first + n;
     let size = layout::cells(s.grid);
     let a = layout::path(size);
     let e = a + 3 * size;
-    let k = super::path::lay(l, &u[first..last], &mut w[a..e], to);
+    let k = super::path::lay(net, &u[first..last], &mut w[a..e], to);
     super::path::shorten(s, vs, lens, map, tiles, w, from, k, n)
 }
 
@@ -135,33 +115,29 @@ fn around(
     allowed: &[u8],
     u: &mut [u32],
     w: &mut [f64],
-    l: Lattice,
+    net: Net,
     from: Vec2,
     to: Vec2,
 ) -> Route
     requires fitted { Fitted s vs.now lens.now map.now w.old }
     requires tiled { Tiled s.grid map.now tiles.now }
-    requires laid { Laid l }
-    requires grid_value { l.grid ≡ s.grid }
+    requires grid_value { net.lattice.grid ≡ s.grid }
     requires over { Over s.grid (length allowed.now) }
     requires s_in_bounds { segments_from (cells_of s) ≤ length u.old }
-    ensures w_after { linked_in s result w.new ≡ around_of s (wall_in s w.old) vs.now lens.now map.now allowed.now from to l }
+    ensures w_after { linked_in s result w.new ≡ around_of s (wall_in s w.old) vs.now lens.now map.now allowed.now from to net.lattice }
     ensures only { Only 0 (segments_from (cells_of s)) u.old u.new }
     ensures only_2 { Only (cost_from (cells_of s)) (path_end (cells_of s)) w.old w.new }
 {
     let n = layout::cells(s.grid);
     let a = layout::cost(n);
     let e = layout::path(n);
-    let o = search(l, map, allowed, u, &mut w[a..e]);
+    let o = search(net, map, allowed, u, &mut w[a..e]);
     let work = o.expanded * 8;
     if !o.found {
-        return Route::Lost(work);
+        return Route { points: None, work };
     }
-    let k = trace(s, vs, lens, map, tiles, u, w, l, from, to);
-    match k {
-        Shortened::Blocked => Route::Lost(work),
-        Shortened::Points(points) => Route::Along(points, work),
-    }
+    let points = trace(s, vs, lens, map, tiles, u, w, net, from, to);
+    Route { points, work }
 }
 
 // The path's points are laid in the workspace: u is the search's, of w its parts for the search and the
@@ -188,17 +164,26 @@ pub fn link_path(
     rims::tiles::fill(s.grid, map, &mut tiles);
     if super::path::clear(s, vs, lens, map, &tiles, w, from, to) {
         super::path::keep(s, w, 0, to);
-        return Route::Along(1, 0);
+        return Route {
+            points: Some(1),
+            work: 0,
+        };
     }
     let g = s.grid;
     let x = raster::grid::cell_of(g, from);
-    let Found::At(i, j) = x else {
-        return Route::Lost(0);
+    let Some((i, j)) = x else {
+        return Route {
+            points: None,
+            work: 0,
+        };
     };
     let z = raster::grid::cell_of(g, to);
-    let Found::At(p, q) = z else {
-        return Route::Lost(0);
+    let Some((p, q)) = z else {
+        return Route {
+            points: None,
+            work: 0,
+        };
     };
-    let l = lattice_of(s, i, j, p, q);
-    around(s, vs, lens, map, &tiles, allowed, u, w, l, from, to)
+    let net = Net::of(s, i, j, p, q);
+    around(s, vs, lens, map, &tiles, allowed, u, w, net, from, to)
 }

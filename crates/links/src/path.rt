@@ -8,57 +8,43 @@ ghost use Rattle.raster.specs.Grid.{Sides};
 ghost use Rattle.rims.specs.Tiles.{Tiled};
 ghost use Rattle.setup.specs.Layout.{path_end, path_from, rim_from};
 ghost use Rattle.setup.specs.Place.{cells_of};
-ghost use Rattle.links.specs.Lattice.{nodes, Laid};
+ghost use Rattle.links.specs.Lattice.{nodes};
 ghost use Rattle.links.specs.Search.{Befores};
 ghost use Rattle.links.specs.Path.{nodes_of, farthest_of, shorten_of, path_in, clear_in, Fitted, short_in};
 
-use super::lattice::{Lattice, centre, nodes_of};
-use super::straight::link_clear;
-use super::{index_of_node, is_none, node_in, same_node};
+use super::lattice::Net;
+use super::straight::Ground;
+use super::{NO_NODE, node_in};
 use geom::points::put;
 use geom::region::vertex;
 use geom::vec2::Vec2;
 use setup::{Setup, layout};
 
-// A point in view, by its number.
-#[derive(Clone, Copy)]
-pub enum Seen {
-    Nothing,
-    Point(usize),
-}
-
-// How many points a shortened path has.
-#[derive(Clone, Copy)]
-pub enum Shortened {
-    Blocked,
-    Points(usize),
-}
-
 // Lays the centres of the path's nodes and then `to` up to point nodes - 1, from the end on; the first
 // point's number.
-pub fn lay(l: Lattice, before: &[u32], ps: &mut [f64], to: Vec2) -> usize
-    requires laid { Laid l }
-    requires before_len { length before.now ≡ nodes l }
-    requires befores { Befores (nodes l) before.now }
-    requires l_in_bounds { 2 * nodes l ≤ length ps.old }
-    ensures ps_after { points result (nodes l - result) ps.new ≡ nodes_of l before.now to }
-    ensures upper_bound { result < nodes l }
+pub fn lay(net: Net, before: &[u32], ps: &mut [f64], to: Vec2) -> usize
+    requires before_len { length before.now ≡ nodes net.lattice }
+    requires befores { Befores (nodes net.lattice) before.now }
+    requires l_in_bounds { 2 * nodes net.lattice ≤ length ps.old }
+    ensures ps_after { points result (nodes net.lattice - result) ps.new ≡ nodes_of net.lattice before.now to }
+    ensures upper_bound { result < nodes net.lattice }
     ensures ps_len_unchanged { length ps.new ≡ length ps.old }
 {
-    let last = nodes_of(l) - 1;
+    let last = net.nodes() - 1;
     put(ps, last, to);
+    // Goes by the nodes before; k is the place of a point, and only bounds the way.
     let mut k = last;
-    let mut v = node_in(before, index_of_node(l.goal));
+    let mut v = node_in(before, usize::from(net.lattice.goal));
     while 0 < k {
-        if is_none(v) {
+        if v == NO_NODE {
             return k;
         }
-        if same_node(v, l.start) {
+        if v == net.lattice.start {
             return k;
         }
         k = k - 1;
-        put(ps, k, centre(l, v));
-        v = node_in(before, index_of_node(v));
+        put(ps, k, net.centre(v));
+        v = node_in(before, usize::from(v));
     }
     k
 }
@@ -81,7 +67,16 @@ pub fn clear(
     let n = layout::cells(s.grid);
     let rim = layout::rim(n);
     let end = layout::tables_end(n);
-    link_clear(s, &w[0..n], vs, lens, map, tiles, &w[rim..end], a, b)
+    let ground = Ground {
+        setup: s,
+        wall: &w[0..n],
+        vs,
+        lens,
+        map,
+        tiles,
+        rim: &w[rim..end],
+    };
+    ground.link_clear(a, b)
 }
 
 // Point k of the path.
@@ -97,7 +92,7 @@ fn point(s: Setup, w: &[f64], k: usize) -> Vec2
     vertex(&w[from..to], k)
 }
 
-// The farthest of the points from `first` on, before `end`, that is in straight view.
+// The number of the farthest of the points from `first` on, before `end`, that is in straight view.
 fn farthest(
     s: Setup,
     vs: &[f64],
@@ -108,22 +103,20 @@ fn farthest(
     here: Vec2,
     first: usize,
     end: usize,
-) -> Seen
+) -> Option<usize>
     requires fitted { Fitted s vs.now lens.now map.now w.now }
     requires tiled { Tiled s.grid map.now tiles.now }
     requires first_le_end { first ≤ end }
     requires end_bound { 2 * end ≤ 3 * cells_of s }
     ensures { result ≡ farthest_of (clear_in s vs.now lens.now map.now w.now) (vertex_of (path_in s w.now)) here first (end - first) }
 {
-    let mut k = end;
-    while first < k {
-        k = k - 1;
+    for k in (first..end).rev() {
         let p = point(s, w, k);
         if clear(s, vs, lens, map, tiles, w, here, p) {
-            return Seen::Point(k);
+            return Some(k);
         }
     }
-    Seen::Nothing
+    None
 }
 
 // Keeps point p as point k of the path.
@@ -141,7 +134,7 @@ pub fn keep(s: Setup, w: &mut [f64], k: usize, p: Vec2)
 }
 
 // Shortens the path of the points from `at` on, before `end`, in place: from each point on to the
-// farthest in straight view.
+// farthest in straight view. How many points it has then, if there is a way.
 pub fn shorten(
     s: Setup,
     vs: &[f64],
@@ -152,7 +145,7 @@ pub fn shorten(
     from: Vec2,
     at: usize,
     end: usize,
-) -> Shortened
+) -> Option<usize>
     requires fitted { Fitted s vs.now lens.now map.now w.old }
     requires tiled { Tiled s.grid map.now tiles.now }
     requires at_le_end { at ≤ end }
@@ -160,18 +153,19 @@ pub fn shorten(
     ensures w_after { short_in s result w.new ≡ shorten_of (clear_in s vs.now lens.now map.now w.old) (points at (end - at) (path_in s w.old)) from }
     ensures only { Only (path_from (cells_of s)) (path_end (cells_of s)) w.old w.new }
 {
+    // No range has these steps: each turn goes on behind the point in view.
     let mut here = from;
     let mut first = at;
     let mut kept = 0;
     while first < end {
         let f = farthest(s, vs, lens, map, tiles, w, here, first, end);
-        let Seen::Point(k) = f else {
-            return Shortened::Blocked;
+        let Some(k) = f else {
+            return None;
         };
         here = point(s, w, k);
         keep(s, w, kept, here);
         kept = kept + 1;
         first = k + 1;
     }
-    Shortened::Points(kept)
+    Some(kept)
 }

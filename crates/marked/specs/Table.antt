@@ -1,6 +1,6 @@
 -- Document 01's "Marked for proof": one table, a sole statement. A row is an equation with the definition that the code's contract cites;
 -- a float is given by its bit pattern. Each layer has its rows in a record, and `Table` has them all.
-use Rattle.std.specs.Prelude.{◌≡◌, false, List, [], ◌∷◌, ℕ, replicate, take, Float}
+use Rattle.std.specs.Prelude.{◌≡◌, false, List, [], ◌∷◌, ℕ, replicate, take, Float, None, Ok, Some}
 use Rattle.std.specs.Float.{nan, inf, binary32, binary64}
 use Rattle.std.specs.Float.Ieee.{of_bits}
 use Rattle.loops.specs.Cells.{ones}
@@ -18,8 +18,6 @@ use Rattle.raster.specs.Contact.{samples_of, rim_contact, angle_of}
 use Rattle.raster.specs.declared.contact.Contact.{Contact}
 use Rattle.filling.specs.Fill.{fill_region}
 use Rattle.raster.specs.declared.grid.Grid.{Grid}
-use Rattle.raster.specs.declared.grid.Raster.TheVariants.{Of}
-use Rattle.raster.specs.declared.grid.Found.TheVariants.{Nothing, At}
 use Rattle.distance.specs.Nearest.{transform_of}
 use Rattle.distance.specs.Rooted.{distances_of}
 use Rattle.passes.specs.Worth.{wanted_of}
@@ -86,8 +84,8 @@ pub record Contacts : Type 0 where
 
 pub record Cells : Type 0 where
   -- (5, 2) has no cell; (0, 0) has (0, 0)
-  pub off : cell_of grid (v2 five f2) ≡ Nothing
-  pub first : cell_of grid (v2 f0 f0) ≡ At 0 0
+  pub off : cell_of grid (v2 five f2) ≡ None
+  pub first : cell_of grid (v2 f0 f0) ≡ Some (0, 0)
 
 -- ---- others
 
@@ -103,7 +101,7 @@ nine = record { origin = v2 (of_bits binary64 0xc000_0000_0000_0000) (of_bits bi
 
 pub record Squares : Type 0 where
   -- 9 by 9, 16 set
-  pub sides : new_grid (v2 f0 f0) (v2 f4 f4) f1 f2 ≡ Of nine
+  pub sides : new_grid (v2 f0 f0) (v2 f4 f4) f1 f2 ≡ Ok nine
   pub set : ones (fill_region nine corners (4 ∷ []) square (replicate 81 0)) ≡ 16
 
 -- what `transform` leaves of 18 places, and `distances` of 9

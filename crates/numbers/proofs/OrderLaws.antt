@@ -8,7 +8,7 @@ use lib.Ieee.Back.{whole_unique}
 use Rattle.loops.proofs.Cases.{by_cases, never, both}
 use Rattle.numbers.proofs.WholeLaws.{nought}
 use Rattle.numbers.specs.Order.{abs_of, is_finite, rank_of, total_of}
-use Rattle.numbers.specs.declared.order.Ordering.TheVariants.{Less, Equal, Greater}
+use Rattle.std.specs.declared.cmp.Ordering.TheVariants.{Less, Equal, Greater}
 
 level_true : (a b : ℕ) (t : Bool) → a ≡ b → a ≡ 0 → (eqb a b && (t || eqb a 0)) ≡ true
 level_true a b true p q = rw (eq-eqb a b p)

@@ -2,8 +2,8 @@
 use Rattle.std.specs.Prelude.{ℕ, ◌+◌, ◌-◌, ◌^◌, Bool, true, false, cond, is_nan, nat_lt, to_bits, Float}
 use Rattle.std.specs.Float.{nan, inf, fin, binary64}
 use Rattle.std.specs.Float.Ieee.{lt}
-use Rattle.numbers.specs.declared.order.Ordering.{Ordering}
-use Rattle.numbers.specs.declared.order.Ordering.TheVariants.{Less, Equal, Greater}
+use Rattle.std.specs.declared.cmp.Ordering.{Ordering}
+use Rattle.std.specs.declared.cmp.Ordering.TheVariants.{Less, Equal, Greater}
 
 -- The larger of two, and of a NaN and a number the number. Where the two are equal, as -0.0 and 0.0 are, Rust leaves open which it is: here it is a.
 unfoldable pub max_of : Float → Float → Float

@@ -7,11 +7,13 @@ ghost use Rattle.numbers.specs.Bound.{Bounds, Square, separated, bound_from, bou
 
 use super::root::sqrt;
 
-// From(h): the root of x is below r exactly where x is below h. Untold: none was found.
+// A number r and, where one was found, the h that decides: the root of x is below r exactly where x is
+// below h.
 #[derive(Clone, Copy)]
-pub enum Bound {
-    From(f64),
-    Untold,
+pub struct Bound {
+    pub r: f64,
+    pub below: Option<f64>,
+    pub ghost bounds: { Bounds r below },
 }
 
 // Whether r lies above the root of the float of pattern k, and not above that of the next one.
@@ -25,19 +27,19 @@ fn separates(k: u64, r: f64) -> bool
 }
 
 // Looks among the eight patterns from k on.
-fn search(k: u64, r: f64) -> Bound
+fn search(k: u64, r: f64) -> Option<f64>
     requires { k < 0x7fe0_0000_0000_0000 }
     ensures { result ≡ bound_from r k }
 {
     for i in 0..8u64 {
         if separates(k + i, r) {
-            return Bound::From(f64::from_bits(k + i + 1));
+            return Some(f64::from_bits(k + i + 1));
         }
     }
-    Bound::Untold
+    None
 }
 
-pub fn bound_of(r: f64) -> Bound
+fn bound_of(r: f64) -> Option<f64>
     ensures is { result ≡ bound_of r }
     ensures decides { Bounds r result }
 {
@@ -51,29 +53,39 @@ pub fn bound_of(r: f64) -> Bound
             return search(k - 4, r);
         }
     }
-    Bound::Untold
+    None
 }
 
-// Whether the root of x is below r, whose bound is b.
-pub fn root_below(x: f64, r: f64, b: Bound) -> bool
-    requires square { Square x }
-    requires bounds { Bounds r b }
-    ensures { result ≡ lt (root_of x) r }
-{
-    match b {
-        Bound::From(h) => x < h,
-        Bound::Untold => sqrt(x) < r,
+impl Bound {
+    pub fn of(r: f64) -> Bound
+        ensures r { result.r ≡ r }
+        ensures below { result.below ≡ bound_of r }
+    {
+        Bound {
+            r,
+            below: bound_of(r),
+        }
     }
-}
 
-// Whether the root of x is r or more; a NaN is not.
-pub fn root_reaches(x: f64, r: f64, b: Bound) -> bool
-    requires square { Square x }
-    requires bounds { Bounds r b }
-    ensures { result ≡ le r (root_of x) }
-{
-    match b {
-        Bound::From(h) => x >= h,
-        Bound::Untold => sqrt(x) >= r,
+    // Whether the root of x is below r.
+    pub fn root_below(self, x: f64) -> bool
+        requires { Square x }
+        ensures { result ≡ lt (root_of x) self.r }
+    {
+        match self.below {
+            Some(h) => x < h,
+            None => sqrt(x) < self.r,
+        }
+    }
+
+    // Whether the root of x is r or more; a NaN is not.
+    pub fn root_reaches(self, x: f64) -> bool
+        requires { Square x }
+        ensures { result ≡ le self.r (root_of x) }
+    {
+        match self.below {
+            Some(h) => x >= h,
+            None => sqrt(x) >= self.r,
+        }
     }
 }

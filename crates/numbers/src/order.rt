@@ -2,13 +2,9 @@
 ghost use Rattle.std.specs.Prelude.{◌≡◌};
 ghost use Rattle.numbers.specs.Order.{max_of, min_of, clamp_of, abs_of, is_finite, rank_of, total_of};
 
-#[derive(Clone, Copy)]
-pub enum Ordering {
-    Less,
-    Equal,
-    Greater,
-}
+use std::cmp::Ordering;
 
+// std's `max` and `min` leave open which of two equals they give, as of -0.0 and 0.0; these give a.
 pub fn max(a: f64, b: f64) -> f64
     ensures { result ≡ max_of a b }
 {
@@ -33,7 +29,8 @@ pub fn min(a: f64, b: f64) -> f64
     }
 }
 
-// Rust panics where lo is above hi or either is a NaN; here both tests are made all the same.
+// Rust panics where lo is above hi or either is a NaN, and std's asks that neither is so; here both tests
+// are made all the same.
 pub fn clamp(x: f64, lo: f64, hi: f64) -> f64
     ensures { result ≡ clamp_of x lo hi }
 {
@@ -46,7 +43,7 @@ pub fn clamp(x: f64, lo: f64, hi: f64) -> f64
     }
 }
 
-// The test on 0 gives -0.0 its sign up.
+// The test on 0 gives -0.0 its sign up. std's has the same values; must-fail/ holds wrong bodies of this one.
 pub fn abs(x: f64) -> f64
     ensures { result ≡ abs_of x }
 {
@@ -59,6 +56,7 @@ pub fn abs(x: f64) -> f64
     }
 }
 
+// std's has the same values; must-fail/ holds wrong bodies of this one.
 pub fn is_finite(x: f64) -> bool
     ensures { result ≡ is_finite x }
 {
@@ -81,6 +79,7 @@ fn rank(x: f64) -> u64
     }
 }
 
+// std's asks that neither is a NaN.
 pub fn total_cmp(a: f64, b: f64) -> Ordering
     ensures { result ≡ total_of a b }
 {

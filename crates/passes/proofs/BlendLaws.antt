@@ -17,9 +17,9 @@ use Rattle.setup.specs.declared.Setup.{Setup}
 use Rattle.events.specs.Chunk.{Entry}
 use Rattle.events.specs.Replay.{BeginsGood}
 use Rattle.passes.specs.declared.guide.Blend.{Blend}
-use Rattle.passes.specs.declared.guide.Blend.TheVariants.{By, Nothing}
+use Rattle.std.specs.Prelude.{Option as RustOption, Some, None}
 use Rattle.passes.specs.Simulate.{nowhere}
-use Rattle.passes.specs.Guide.{Bend, bd, bend_step, bent_end, bent_of, far_of, len_of, attempt, chosen, choose_of, blended, blend_of}
+use Rattle.passes.specs.Guide.{blend, Bend, bd, bend_step, bent_end, bent_of, far_of, len_of, attempt, chosen, choose_of, blended, blend_of}
 use Rattle.passes.specs.Tried.{job_at}
 
 -- ---- as many points
@@ -59,23 +59,23 @@ module _ (len far : Float) (pts : List Vec2) where
 -- ---- the first point
 
 module _ (s : Setup) (allowed free : Vec2 → Bool) (pts : List Vec2) where
-  abbrev pub Begins : Blend → Type 0
-  Begins Nothing = Unit
-  Begins (By len far) = let q = get_or (bent_of len far pts) 0 nowhere in (allowed q ≡ true) × (free q ≡ true)
+  abbrev pub Begins : RustOption Blend → Type 0
+  Begins None = Unit
+  Begins (Some b) = let q = get_or (bent_of b.len b.far pts) 0 nowhere in (allowed q ≡ true) × (free q ≡ true)
 
-  abbrev Tries : Run (Unit {0}) Blend → Type 0
+  abbrev Tries : Run (Unit {0}) (RustOption Blend) → Type 0
   Tries (on u) = Unit
   Tries (out b) = Begins b
 
-  tries_step : (len : Float) (k : ℕ) (r : Run (Unit {0}) Blend) → Tries r → Tries (turn (attempt s allowed free pts len) k r)
+  tries_step : (len : Float) (k : ℕ) (r : Run (Unit {0}) (RustOption Blend)) → Tries r → Tries (turn (attempt s allowed free pts len) k r)
   unfolding turn attempt
   tries_step len k (out b) g = g
   tries_step len k (on u) g =
       let far : Float = far_of s.grid.cell s.r (bite_of s) k in
       let q : Vec2 = get_or (bent_of len far pts) 0 nowhere in
-      by_test Tries (allowed q && free q) (out (By len far)) (on tt) (λ e. both (allowed q) (free q) e) (λ e. tt)
+      by_test Tries (allowed q && free q) (out (Some (blend len far))) (on tt) (λ e. both (allowed q) (free q) e) (λ e. tt)
 
-  tries_end : (r : Run (Unit {0}) Blend) → Tries r → Begins (chosen r)
+  tries_end : (r : Run (Unit {0}) (RustOption Blend)) → Tries r → Begins (chosen r)
   unfolding chosen
   tries_end (on u) g = tt
   tries_end (out b) g = g
@@ -91,10 +91,10 @@ module _ (s : Setup) (allowed free : Vec2 → Bool) (pts : List Vec2) where
   Blends none = Unit
   Blends (some l) = (length l ≡ length pts) × (allowed (get_or l 0 nowhere) ≡ true) × (free (get_or l 0 nowhere) ≡ true)
 
-  blends : (b : Blend) → Begins b → Blends (blended pts b)
+  blends : (b : RustOption Blend) → Begins b → Blends (blended pts b)
   unfolding blended
-  blends Nothing g = tt
-  blends (By len far) g = (bent_length len far pts, g.0, g.1)
+  blends None g = tt
+  blends (Some b) g = (bent_length b.len b.far pts, g.0, g.1)
 
   blend_good : (l : List Vec2) → blend_of s allowed free pts ≡ some l → Blends (some l)
   unfolding blend_of

@@ -23,9 +23,9 @@ use Rattle.geom.proofs.PointLaws.{put-length, put_there, points-length, points-s
 use Rattle.setup.specs.Place.{bite_of}
 use Rattle.setup.specs.declared.Setup.{Setup}
 use Rattle.passes.specs.declared.guide.Blend.{Blend}
-use Rattle.passes.specs.declared.guide.Blend.TheVariants.{By, Nothing}
+use Rattle.std.specs.Prelude.{Option as RustOption, Some, None}
 use Rattle.passes.specs.Simulate.{nowhere}
-use Rattle.passes.specs.Guide.{add_leg, path_length, length_so_far, bent_at, Bend, bd, after_of, before_of, bend_step, bent_end, bent_of, far_of, chosen, len_of, attempt, choose_of}
+use Rattle.passes.specs.Guide.{blend, add_leg, path_length, length_so_far, bent_at, Bend, bd, after_of, before_of, bend_step, bent_end, bent_of, far_of, chosen, len_of, attempt, choose_of}
 use Rattle.passes.proofs.SimulateLaws.{point_in_lem}
 
 -- ---- the length
@@ -242,7 +242,7 @@ module _ (s : Setup) (allowed free : Vec2 → Bool) (pts : List Vec2) (len : Flo
     same-far : far ≡ far_of s.grid.cell s.r (bite_of s) k
     same-far = F ∙ ap (λ (b : Float). far_of s.grid.cell s.r b k) B
 
-    pub attempt-yes : t ≡ true → attempt s allowed free pts len k tt ≡ out (By len far)
+    pub attempt-yes : t ≡ true → attempt s allowed free pts len k tt ≡ out (Some (blend len far))
     unfolding attempt
     attempt-yes e = rw (← same-far, ← Q, ← T, e)
 
@@ -251,15 +251,15 @@ module _ (s : Setup) (allowed free : Vec2 → Bool) (pts : List Vec2) (len : Flo
     attempt-no e = rw (← same-far, ← Q, ← T, e)
 
   module _ (L : len ≡ len_of s pts) where
-    pub choose_short : le len s.grid.cell ≡ true → Nothing ≡ choose_of s allowed free pts
+    pub choose_short : le len s.grid.cell ≡ true → None ≡ choose_of s allowed free pts
     unfolding choose_of
     choose_short e = rw (← L, e)
 
     module _ (e : le len s.grid.cell ≡ false) where
-      pub choose_out : (b : Blend) → loop (turn (attempt s allowed free pts len)) 0 3 (on tt) ≡ out b → b ≡ choose_of s allowed free pts
+      pub choose_out : (b : RustOption Blend) → loop (turn (attempt s allowed free pts len)) 0 3 (on tt) ≡ out b → b ≡ choose_of s allowed free pts
       unfolding choose_of chosen
       choose_out b d = rw (← L, e) (ap chosen (sym d))
 
-      pub choose_none : on tt ≡ loop (turn (attempt s allowed free pts len)) 0 3 (on tt) → Nothing ≡ choose_of s allowed free pts
+      pub choose_none : on tt ≡ loop (turn (attempt s allowed free pts len)) 0 3 (on tt) → None ≡ choose_of s allowed free pts
       unfolding choose_of chosen
       choose_none d = rw (← L, e) (ap chosen d)

@@ -20,31 +20,31 @@ use Rattle.raster.proofs.RunLaws.{kept-passes, logged-run}
 use Rattle.setup.specs.declared.Setup.{Setup}
 use Rattle.events.specs.Lent.{triple_at}
 use Rattle.passes.specs.declared.shifts.Shift.{Shift}
-use Rattle.passes.specs.declared.shifts.Shift.TheVariants.{At, Nothing}
+use Rattle.std.specs.Prelude.{Option, Some, None}
 use Rattle.passes.specs.declared.trial.Leg.{Leg}
 use Rattle.passes.specs.Shifts.{max_shift, search_of}
 use Rattle.passes.specs.Simulate.{nowhere, gap_of, Pass, spent, filled, h_of, step_of, advance_of, went, sample_step, sample_of, along_leg, leg_step, ended, begun, simulate_of}
 use Rattle.passes.proofs.SimulateLaws.{long-put}
 
 -- D is what a search finds on a map, P what a pass keeps
-module _ (s : Setup) (allowed : Vec2 → Bool) (kept : ℕ) (D : List ℕ → Shift → Type 0)
+module _ (s : Setup) (allowed : Vec2 → Bool) (kept : ℕ) (D : List ℕ → Option Shift → Type 0)
     (found : (m : List ℕ) (g left : Vec2) (shift : Float) (work : ℕ) → D m (search_of s allowed m g left (step_of s) (max_shift s) shift work).found)
     (P : Pass → Type 0) (each_spent : (w : ℕ) (p : Pass) → P p → P (spent w p)) (each-filled : (p : Pass) → P p → P (filled p))
-    (Each-on : (p : Pass) → P p → (q : Vec2) (e x : Float) → D p.cells (At q e x) → kept + p.trial.points < length p.out / 3 → P (advance_of s kept q e x p)) where
+    (Each-on : (p : Pass) → P p → (f : Shift) → D p.cells (Some f) → kept + p.trial.points < length p.out / 3 → P (advance_of s kept f.at f.angle f.shift p)) where
   -- the loop goes on, or it is left
   abbrev Still : Run Pass Pass → Type 0
   Still (on p) = P p
   Still (out p) = P p
 
-  still_went : (p : Pass) (f : Shift) → P p → D p.cells f → Still (went s allowed kept p f)
+  still_went : (p : Pass) (f : Option Shift) → P p → D p.cells f → Still (went s allowed kept p f)
   unfolding went
-  still_went p Nothing h g = h
-  still_went p (At q e x) h g =
-      by_test Still (gap_of (h_of s) (max_shift s) q p.trial.prev) _ _
+  still_went p None h g = h
+  still_went p (Some f) h g =
+      by_test Still (gap_of (h_of s) (max_shift s) f.at p.trial.prev) _ _
       (λ t. h)
       (λ t. by_test Still (leb (length p.out / 3) (kept + p.trial.points)) _ _
       (λ b. each-filled p h)
-      (λ b. Each-on p h q e x g (leb-false (length p.out / 3) (kept + p.trial.points) b)))
+      (λ b. Each-on p h f g (leb-false (length p.out / 3) (kept + p.trial.points) b)))
 
   still_sample : (l : Leg) (k : ℕ) (r : Run Pass Pass) → Still r → Still (turn (sample_step s allowed kept l) k r)
   unfolding turn sample_step
@@ -100,7 +100,7 @@ module _ (s : Setup) (allowed : Vec2 → Bool) (kept : ℕ) (m l : List ℕ) (o 
       (λ b. keeps_legs s allowed kept (λ n f. Unit {0}) (λ n g left shift work. tt) (Ran s kept m l o)
       (λ w p h. record { cuts = h.cuts; is = h.is; long = h.long; room = h.room })
       (λ p h. record { cuts = h.cuts; is = h.is; long = h.long; room = λ f. absurd (true≢false f) })
-      ran_on pts (length pts) _ (ran_begun (get_or pts 0 nowhere) (leb-false (length o / 3) kept b)))
+      (λ p h f. ran_on p h f.at f.angle f.shift) pts (length pts) _ (ran_begun (get_or pts 0 nowhere) (leb-false (length o / 3) kept b)))
 
 module _ (s : Setup) (kept : ℕ) (m l : List ℕ) (o : List Float) (R : Ready (st m l 0)) (p : Pass) (h : Ran s kept m l o p) where
   -- lengths are kept, undoing gives the map back, and clearing again what the pass left

@@ -23,7 +23,7 @@ use Rattle.passes.specs.Simulate.{nowhere}
 use Rattle.setup.specs.Place.{Walls, allowed_at, free_at}
 use Rattle.setup.specs.declared.Setup.{Setup}
 use Rattle.passes.specs.declared.guide.Blend.{Blend}
-use Rattle.passes.specs.declared.guide.Blend.TheVariants.{By, Nothing}
+use Rattle.std.specs.Prelude.{Option as RustOption, Some, None}
 use Rattle.passes.specs.Guide.{bent_of, choose_of, blended, blend_of, round_to, walk_of, flat, points_in, laid, bent_or, is_some, Ahead}
 use Rattle.passes.proofs.SimulateLaws.{point_in_lem}
 
@@ -269,25 +269,25 @@ module _ (at m : ℕ) (w : List Float) (h : at + 2 * m ≤ length w) where
   pub part_some : 1 ≤ m → 2 ≤ length part
   part_some d = let l = part_long in omega arith
 
-  module _ (s : Setup) (allowed free : Vec2 → Bool) (b : Blend) (B : b ≡ choose_of s allowed free (points 0 (length part / 2) part)) where
+  module _ (s : Setup) (allowed free : Vec2 → Bool) (b : RustOption Blend) (B : b ≡ choose_of s allowed free (points 0 (length part / 2) part)) where
     blend_by : blend_of s allowed free (points_in at m w) ≡ blended (points_in at m w) b
     unfolding blend_of within
     blend_by = ap (blended (points_in at m w)) (sym (B ∙ ap (λ (k : ℕ). choose_of s allowed free (points 0 k part)) part_half))
 
-    pub blend_none : b ≡ Nothing → (false ≡ is_some (blend_of s allowed free (points_in at m w))) × (w ≡ laid at m (blend_of s allowed free (points_in at m w)) w)
+    pub blend_none : b ≡ None → (false ≡ is_some (blend_of s allowed free (points_in at m w))) × (w ≡ laid at m (blend_of s allowed free (points_in at m w)) w)
     unfolding blended is_some laid
     blend_none e =
         let z : blend_of s allowed free (points_in at m w) ≡ none = blend_by ∙ ap (blended (points_in at m w)) e in
         (ap is_some (sym z), ap (λ (o : Option (List Vec2)). laid at m o w) (sym z))
 
-    pub blend_some : (len far : Float) → b ≡ By len far → (r : List Float) → length r ≡ length part → points 0 (length part / 2) r ≡ bent_of len far (points 0 (length part / 2) part)
+    pub blend_some : (v : Blend) → b ≡ Some v → (r : List Float) → length r ≡ length part → points 0 (length part / 2) r ≡ bent_of v.len v.far (points 0 (length part / 2) part)
         → (true ≡ is_some (blend_of s allowed free (points_in at m w))) × (put_mid at (at + 2 * m - at) w r ≡ laid at m (blend_of s allowed free (points_in at m w)) w)
     unfolding blended is_some laid within
-    blend_some len far e r l d =
-        let z : blend_of s allowed free (points_in at m w) ≡ some (bent_of len far (points_in at m w)) = blend_by ∙ ap (blended (points_in at m w)) e in
-        let g : points 0 m r ≡ bent_of len far (points_in at m w) =
-        ap (λ (k : ℕ). points 0 k r) (sym part_half) ∙ d ∙ ap (λ (k : ℕ). bent_of len far (points 0 k part)) part_half in
-        (ap is_some (sym z), put_is at (at + 2 * m) w part_fits r (flat (bent_of len far (points_in at m w))) (sym (flat-points r m (l ∙ part_long)) ∙ ap flat g) ∙ ap (λ (o : Option (List Vec2)). laid at m o w) (sym z))
+    blend_some v e r l d =
+        let z : blend_of s allowed free (points_in at m w) ≡ some (bent_of v.len v.far (points_in at m w)) = blend_by ∙ ap (blended (points_in at m w)) e in
+        let g : points 0 m r ≡ bent_of v.len v.far (points_in at m w) =
+        ap (λ (k : ℕ). points 0 k r) (sym part_half) ∙ d ∙ ap (λ (k : ℕ). bent_of v.len v.far (points 0 k part)) part_half in
+        (ap is_some (sym z), put_is at (at + 2 * m) w part_fits r (flat (bent_of v.len v.far (points_in at m w))) (sym (flat-points r m (l ∙ part_long)) ∙ ap flat g) ∙ ap (λ (o : Option (List Vec2)). laid at m o w) (sym z))
 
 -- ---- walked, then bent
 

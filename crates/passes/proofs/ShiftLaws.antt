@@ -13,11 +13,10 @@ use Rattle.raster.specs.Contact.{angle_of}
 use Rattle.raster.specs.declared.contact.Contact.{Contact}
 use Rattle.setup.specs.Place.{contact_at, bite_of}
 use Rattle.setup.specs.declared.Setup.{Setup}
-use Rattle.passes.specs.declared.shifts.Probe.{Probe}
-use Rattle.passes.specs.declared.shifts.Probe.TheVariants.{Counted, Barred}
-use Rattle.passes.specs.declared.shifts.Shift.TheVariants.{At, Nothing}
+use Rattle.std.specs.Prelude.{Option, Some, None}
+use Rattle.passes.specs.declared.shifts.Shift.{Shift}
 use Rattle.passes.specs.declared.shifts.Search.{Search}
-use Rattle.passes.specs.Shifts.{max_shift, sr, sat_add, moved_of, sk, grown, sought, probe_of, judged, try_of, ease_of, look, outward, or_outward, search_of}
+use Rattle.passes.specs.Shifts.{max_shift, sr, shifted, sat_add, moved_of, sk, grown, sought, probe_of, judged, try_of, ease_of, look, outward, or_outward, search_of}
 
 pub max_is : (s : Setup) (b : Float) → b ≡ bite_of s → add binary64 b (mul binary64 f4 s.grid.cell) ≡ max_shift s
 unfolding max_shift
@@ -39,32 +38,32 @@ module _ (s : Setup) (allowed : Vec2 → Bool) (m : List ℕ) where
   -- ---- one probe
 
   module _ (q : Vec2) (a : Bool) (A : a ≡ allowed q) where
-    pub probe_yes : a ≡ true → (c : Contact) → c ≡ contact_at s m q s.r_guard → Counted c ≡ probe_of s allowed m q
+    pub probe_yes : a ≡ true → (c : Contact) → c ≡ contact_at s m q s.r_guard → Some c ≡ probe_of s allowed m q
     unfolding probe_of
     probe_yes t c C = rw (← A, t, ← C)
 
-    pub probe_no : a ≡ false → Barred ≡ probe_of s allowed m q
+    pub probe_no : a ≡ false → None ≡ probe_of s allowed m q
     unfolding probe_of
     probe_no t = rw (← A, t)
 
-  module _ (g left : Vec2) (sh limit : Float) (work : ℕ) (q : Vec2) (p : Probe) (Q : q ≡ moved_of g left sh) (P : p ≡ probe_of s allowed m q) where
-    pub try_barred : p ≡ Barred → sr Nothing work ≡ try_of s allowed m g left sh limit work
+  module _ (g left : Vec2) (sh limit : Float) (work : ℕ) (q : Vec2) (p : Option Contact) (Q : q ≡ moved_of g left sh) (P : p ≡ probe_of s allowed m q) where
+    pub try_barred : p ≡ None → sr None work ≡ try_of s allowed m g left sh limit work
     unfolding try_of judged
     try_barred h = rw (← Q, ← P, h)
 
-    module _ (t : Contact) (e : Float) (w : ℕ) (h : p ≡ Counted t) (W : w ≡ sat_add work s.samples) (E : e ≡ angle_of t) where
-      pub try_taken : le e limit ≡ true → sr (At q e sh) w ≡ try_of s allowed m g left sh limit work
+    module _ (t : Contact) (e : Float) (w : ℕ) (h : p ≡ Some t) (W : w ≡ sat_add work s.samples) (E : e ≡ angle_of t) where
+      pub try_taken : le e limit ≡ true → sr (Some (shifted q e sh)) w ≡ try_of s allowed m g left sh limit work
       unfolding try_of judged
       try_taken c = rw (← Q, ← P, h, ← E, c, ← W)
 
-      pub try_left : le e limit ≡ false → sr Nothing w ≡ try_of s allowed m g left sh limit work
+      pub try_left : le e limit ≡ false → sr None w ≡ try_of s allowed m g left sh limit work
       unfolding try_of judged
       try_left c = rw (← Q, ← P, h, ← E, c, ← W)
 
   -- ---- the search
 
   module _ (g left : Vec2) (step shift : Float) (work : ℕ) where
-    pub ease_none : lt f0 shift ≡ false → sr Nothing work ≡ ease_of s allowed m g left step shift work
+    pub ease_none : lt f0 shift ≡ false → sr None work ≡ ease_of s allowed m g left step shift work
     unfolding ease_of
     ease_none c = rw c
 
@@ -74,26 +73,26 @@ module _ (s : Setup) (allowed : Vec2 → Bool) (m : List ℕ) where
     ease_some c sh r a b = rw (c, ← a) b
 
     module _ (most : Float) (r : Search) (R : r ≡ ease_of s allowed m g left step shift work) where
-      pub search_eased : (q : Vec2) (e x : Float) → r.found ≡ At q e x → r ≡ search_of s allowed m g left step most shift work
+      pub search_eased : (f : Shift) → r.found ≡ Some f → r ≡ search_of s allowed m g left step most shift work
       unfolding search_of or_outward
-      search_eased q e x h = rw (← R, h)
+      search_eased f h = rw (← R, h)
 
-      pub search_outward : r.found ≡ Nothing → (u : Search) → u ≡ outward s allowed m g left step most shift r.work → u ≡ search_of s allowed m g left step most shift work
+      pub search_outward : r.found ≡ None → (u : Search) → u ≡ outward s allowed m g left step most shift r.work → u ≡ search_of s allowed m g left step most shift work
       unfolding search_of or_outward
       search_outward h u k = rw (← R, h) k
 
   module _ (g left : Vec2) (step most : Float) where
     module _ (i : ℕ) (sh : Float) (w : ℕ) where
-      pub look-far : not (le sh (add binary64 most tiny)) ≡ true → look s allowed m g left step most i (sk sh w) ≡ out (sr Nothing w)
+      pub look-far : not (le sh (add binary64 most tiny)) ≡ true → look s allowed m g left step most i (sk sh w) ≡ out (sr None w)
       unfolding look
       look-far c = rw (not-true (le sh (add binary64 most tiny)) c)
 
       module _ (c : not (le sh (add binary64 most tiny)) ≡ false) (r : Search) (R : r ≡ try_of s allowed m g left sh s.guard w) where
-        pub look-found : (q : Vec2) (e x : Float) → r.found ≡ At q e x → look s allowed m g left step most i (sk sh w) ≡ out (sr (At q e x) r.work)
+        pub look-found : (f : Shift) → r.found ≡ Some f → look s allowed m g left step most i (sk sh w) ≡ out r
         unfolding look grown
-        look-found q e x h = rw (not-false (le sh (add binary64 most tiny)) c, ← R, h)
+        look-found f h = rw (not-false (le sh (add binary64 most tiny)) c, ← R, h)
 
-        pub look-on : r.found ≡ Nothing → on (sk (add binary64 sh step) r.work) ≡ look s allowed m g left step most i (sk sh w)
+        pub look-on : r.found ≡ None → on (sk (add binary64 sh step) r.work) ≡ look s allowed m g left step most i (sk sh w)
         unfolding look grown
         look-on h = rw (not-false (le sh (add binary64 most tiny)) c, ← R, h)
 
@@ -102,6 +101,6 @@ module _ (s : Setup) (allowed : Vec2 → Bool) (m : List ℕ) where
       unfolding outward sought
       outward-out r e = ap sought (sym e)
 
-      pub outward-on : (sh : Float) (w : ℕ) → on (sk sh w) ≡ loop (turn (look s allowed m g left step most)) 0 8193 (on (sk shift work)) → sr Nothing w ≡ outward s allowed m g left step most shift work
+      pub outward-on : (sh : Float) (w : ℕ) → on (sk sh w) ≡ loop (turn (look s allowed m g left step most)) 0 8193 (on (sk shift work)) → sr None w ≡ outward s allowed m g left step most shift work
       unfolding outward sought
       outward-on sh w e = ap sought e

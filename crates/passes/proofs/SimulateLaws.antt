@@ -24,7 +24,8 @@ use Rattle.raster.proofs.LogLaws.{Kept, cell_cases, kept-none, kept-cell, keep-a
 use Rattle.rims.proofs.TileLaws.{Fewer}
 use Rattle.setup.specs.declared.Setup.{Setup}
 use Rattle.events.specs.Lent.{Triple, triple_at, set_triple}
-use Rattle.passes.specs.declared.shifts.Shift.TheVariants.{At, Nothing}
+use Rattle.std.specs.Prelude.{Some, None}
+use Rattle.passes.specs.declared.shifts.Shift.{Shift}
 use Rattle.passes.specs.declared.shifts.Search.{Search}
 use Rattle.passes.specs.declared.trial.Leg.{Leg}
 use Rattle.passes.specs.declared.trial.Trial.{Trial}
@@ -140,13 +141,13 @@ module _ (s : Setup) (allowed : Vec2 → Bool) (kept : ℕ) where
     searched : r ≡ search_of s allowed p.cells g l.left (step_of s) (max_shift s) p.trial.shift p.trial.work
     searched = R ∙ ap (λ (x : Float). search_of s allowed p.cells g l.left (step_of s) x p.trial.shift p.trial.work) M
 
-    pub turn-none : r.found ≡ Nothing → sample_step s allowed kept l k p ≡ out (spent r.work p)
+    pub turn-none : r.found ≡ None → sample_step s allowed kept l k p ≡ out (spent r.work p)
     unfolding sample_step went
     turn-none h = rw (← G, ← searched, h)
 
-    module _ (q : Vec2) (e x : Float) (h : r.found ≡ At q e x) (f : Bool) (F : f ≡ gap_of (h_of s) most q p.trial.prev) where
-      apart : f ≡ gap_of (h_of s) (max_shift s) q p.trial.prev
-      apart = F ∙ ap (λ (y : Float). gap_of (h_of s) y q p.trial.prev) M
+    module _ (v : Shift) (h : r.found ≡ Some v) (f : Bool) (F : f ≡ gap_of (h_of s) most v.at p.trial.prev) where
+      apart : f ≡ gap_of (h_of s) (max_shift s) v.at p.trial.prev
+      apart = F ∙ ap (λ (y : Float). gap_of (h_of s) y v.at p.trial.prev) M
 
       pub turn_gap : f ≡ true → sample_step s allowed kept l k p ≡ out (spent r.work p)
       unfolding sample_step went
@@ -156,9 +157,9 @@ module _ (s : Setup) (allowed : Vec2 → Bool) (kept : ℕ) where
       unfolding sample_step went
       turn-full c o = rw (← G, ← searched, h, ← apart, c, le-leb (length p.out / 3) (kept + p.trial.points) o)
 
-      pub turn_on : f ≡ false → kept + p.trial.points < length p.out / 3 → (u : Pass) → u ≡ advance_of s kept q e x (spent r.work p) → on u ≡ sample_step s allowed kept l k p
+      pub turn_on : f ≡ false → kept + p.trial.points < length p.out / 3 → (u : Pass) → u ≡ advance_of s kept v.at v.angle v.shift (spent r.work p) → on u ≡ sample_step s allowed kept l k p
       unfolding sample_step went
-      turn_on c o u v = rw (← G, ← searched, h, ← apart, c, lt-leb (length p.out / 3) (kept + p.trial.points) o) (ap on v)
+      turn_on c o u y = rw (← G, ← searched, h, ← apart, c, lt-leb (length p.out / 3) (kept + p.trial.points) o) (ap on y)
 
   -- ---- a turn of the loop over the legs, whose points are those of a slice: what leaves the inner loop leaves this one too
 

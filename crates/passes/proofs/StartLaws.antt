@@ -1,4 +1,5 @@
 -- What the proofs of `start` cite, and that what is found is one of those that were asked for and none is nearer. Assumes nothing.
+use Rattle.std.specs.Prelude.{Some, None}
 use mathlib.Core.Path.{◌≡◌, sym, ap, ◌∙◌, subst}
 use mathlib.Core.Bool.{Bool, true, false}
 use mathlib.Core.List.{List}
@@ -13,16 +14,14 @@ use Rattle.loops.specs.Least.{least_by}
 use Rattle.loops.proofs.Cases.{by_cases, by_test}
 use Rattle.loops.proofs.LeastLaws.{Leads, leads-first, leads_new, leads-on, leads-end, Ordered, lower_ordered, least-below, least_first}
 use Rattle.numbers.specs.Order.{rank_of, total_of}
-use Rattle.numbers.specs.declared.order.Ordering.{Ordering}
+use Rattle.std.specs.declared.cmp.Ordering.{Ordering}
 use Rattle.geom.specs.Vec.{distance_of}
 use Rattle.geom.specs.Region.{vertex_of}
 use Rattle.geom.specs.Points.{points}
 use Rattle.geom.specs.declared.vec2.Vec2.{Vec2}
 use Rattle.geom.proofs.PointLaws.{points-length}
 use Rattle.passes.specs.declared.start.Near.{Near}
-use Rattle.passes.specs.declared.start.Place.{Place}
-use Rattle.passes.specs.declared.start.Place.TheVariants.{At, Nowhere}
-use Rattle.passes.specs.Start.{is_greater, is_nearer, nr, nearer, point_far, nearest_of, near_of, start_of}
+use Rattle.passes.specs.Start.{Place, is_greater, is_nearer, nr, nearer, point_far, nearest_of, near_of, start_of}
 use Rattle.passes.proofs.SimulateLaws.{point_in_lem}
 
 pub nearer_by : (x y : Float) (o : Ordering) → o ≡ total_of y x → is_greater o ≡ is_nearer x y
@@ -63,11 +62,11 @@ module _ (w : List Float) (n : ℕ) (p : Vec2) where
   unfolding nearest_of
   near-end b k l h = leads-end is_nearer (point_far (points 0 n w) p) n b.at b.far k l h ∙ ap (least_by is_nearer (point_far (points 0 n w) p)) (sym (points-length 0 n w))
 
-pub near_none : (pts : List Vec2) (pos : Place) → pos ≡ Nowhere → 0 ≡ near_of pts pos
+pub near_none : (pts : List Vec2) (pos : Place) → pos ≡ None → 0 ≡ near_of pts pos
 unfolding near_of
 near_none pts pos e = rw e
 
-pub near-some : (pts : List Vec2) (pos : Place) (p : Vec2) → pos ≡ At p → (b : ℕ) → b ≡ nearest_of pts p → b ≡ near_of pts pos
+pub near-some : (pts : List Vec2) (pos : Place) (p : Vec2) → pos ≡ Some p → (b : ℕ) → b ≡ nearest_of pts p → b ≡ near_of pts pos
 unfolding near_of
 near-some pts pos p e b B = rw e B
 
@@ -92,8 +91,8 @@ nearest-first pts p j h = least_first is_nearer (point_far pts p) (nearer-ordere
 
 pub near-below : (pts : List Vec2) (pos : Place) → 0 < length pts → near_of pts pos < length pts
 unfolding near_of nearest_of
-near-below pts Nowhere h = h
-near-below pts (At p) h = least-below is_nearer (point_far pts p) (length pts) h
+near-below pts None h = h
+near-below pts (Some p) h = least-below is_nearer (point_far pts p) (length pts) h
 
 pub start-below : (near n k : ℕ) → 0 < n → start_of near n k < n
 unfolding start_of

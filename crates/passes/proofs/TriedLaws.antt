@@ -28,7 +28,8 @@ use Rattle.events.specs.Events.{State, state, cuts_from, cuts_of, pass_logged, P
 use Rattle.events.proofs.LentLaws.{trial-none, trial_more}
 use Rattle.events.proofs.TrialLaws.{pass-cells}
 use Rattle.events.proofs.PassLaws.{last_more, later_logged, later_more, checked_more}
-use Rattle.passes.specs.declared.shifts.Shift.TheVariants.{At}
+use Rattle.std.specs.Prelude.{Some}
+use Rattle.passes.specs.Shifts.{shifted}
 use Rattle.passes.specs.Shifts.{max_shift}
 use Rattle.passes.specs.Simulate.{nowhere, Pass, ps, tr, spent, filled, step_of, advance_of, leg_step, ended, begun, simulate_of}
 use Rattle.setup.specs.Made.{widened, Measured}
@@ -119,7 +120,7 @@ module _ (s : Setup) (wall vs : List Float) (lens start : List ℕ) (limit : Flo
   goes_filled : (p : Pass) → Goes p → Goes (filled p)
   goes_filled p h = record { later = h.later; count = h.count; read = h.read; held = h.held; checked = h.checked; stock = h.stock; prev = h.prev }
 
-  module _ (p : Pass) (h : Goes p) (q : Vec2) (e x : Float) (f : Served s allowed p.cells (At q e x)) (room : kept + p.trial.points < length p.out / 3) where
+  module _ (p : Pass) (h : Goes p) (q : Vec2) (e x : Float) (f : Served s allowed p.cells (Some (shifted q e x))) (room : kept + p.trial.points < length p.out / 3) where
     same-cells : p.cells ≡ (later_logged job first.at h.later stock).cells
     same-cells = ap (λ (t : Stock). t.cells) h.stock
 
@@ -152,7 +153,7 @@ module _ (s : Setup) (wall vs : List Float) (lens start : List ℕ) (limit : Flo
 
   goes_legs : (pts : List Vec2) (n : ℕ) (p : Pass) → Goes p → Goes (ended (loop (turn (leg_step s allowed kept pts)) 1 n (on p)))
   goes_legs pts n p h =
-      keeps_legs s allowed kept (Served s allowed) (λ m g left shift work. search_served s allowed m M.below g left (step_of s) (max_shift s) shift work) Goes goes_spent goes_filled goes_on pts n p h
+      keeps_legs s allowed kept (Served s allowed) (λ m g left shift work. search_served s allowed m M.below g left (step_of s) (max_shift s) shift work) Goes goes_spent goes_filled (λ u g f. goes_on u g f.at f.angle f.shift) pts n p h
 
 -- ---- the theorem
 

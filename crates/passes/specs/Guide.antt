@@ -15,7 +15,7 @@ use Rattle.setup.specs.Place.{bite_of, allowed_at, free_at}
 use Rattle.setup.specs.declared.Setup.{Setup}
 use Rattle.passes.specs.Simulate.{nowhere}
 use Rattle.passes.specs.declared.guide.Blend.{Blend}
-use Rattle.passes.specs.declared.guide.Blend.TheVariants.{By, Nothing}
+use Rattle.std.specs.Prelude.{Option as RustOption, Some, None}
 
 -- ---- the length, summed in order
 
@@ -74,8 +74,11 @@ far_of cell r bite k =
     (cond (eqb k 1) (add binary64 (mul binary64 f2 bite) (mul binary64 f3 cell))
     (add binary64 (mul binary64 half r) bite))
 
-unfoldable pub chosen : Run (Unit {0}) Blend → Blend
-chosen (on u) = Nothing
+abbrev pub blend : Float → Float → Blend
+blend len far = record { len = len; far = far }
+
+unfoldable pub chosen : Run (Unit {0}) (RustOption Blend) → RustOption Blend
+chosen (on u) = None
 chosen (out b) = b
 
 -- (3.0 * r).min(0.5 * total)
@@ -83,18 +86,18 @@ unfoldable pub len_of : Setup → List Vec2 → Float
 len_of s pts = min_of (mul binary64 f3 s.r) (mul binary64 half (path_length pts))
 
 module _ (s : Setup) (allowed free : Vec2 → Bool) (pts : List Vec2) where
-  unfoldable pub attempt : Float → ℕ → Unit {0} → Run (Unit {0}) Blend
+  unfoldable pub attempt : Float → ℕ → Unit {0} → Run (Unit {0}) (RustOption Blend)
   attempt len k u =
       let far = far_of s.grid.cell s.r (bite_of s) k in
       let q = get_or (bent_of len far pts) 0 nowhere in
-      cond (allowed q && free q) (out (By len far)) (on tt)
+      cond (allowed q && free q) (out (Some (blend len far))) (on tt)
 
-  unfoldable pub choose_of : Blend
-  choose_of = cond (le (len_of s pts) s.grid.cell) Nothing (chosen (loop (turn (attempt (len_of s pts))) 0 3 (on tt)))
+  unfoldable pub choose_of : RustOption Blend
+  choose_of = cond (le (len_of s pts) s.grid.cell) None (chosen (loop (turn (attempt (len_of s pts))) 0 3 (on tt)))
 
-unfoldable pub blended : List Vec2 → Blend → Option (List Vec2)
-blended pts Nothing = none
-blended pts (By len far) = some (bent_of len far pts)
+unfoldable pub blended : List Vec2 → RustOption Blend → Option (List Vec2)
+blended pts None = none
+blended pts (Some b) = some (bent_of b.len b.far pts)
 
 unfoldable pub blend_of : Setup → (Vec2 → Bool) → (Vec2 → Bool) → List Vec2 → Option (List Vec2)
 blend_of s allowed free pts = blended pts (choose_of s allowed free pts)

@@ -1,5 +1,5 @@
 -- The search for a shift in `simulate` of adaptive.rs, operation by operation. `allowed` is whether the tool's centre may be at a place. Definitions only.
-use Rattle.std.specs.Prelude.{ℕ, ◌+◌, min, Bool, cond, List, Float}
+use Rattle.std.specs.Prelude.{ℕ, ◌+◌, min, Bool, cond, List, Float, Option, Some, None}
 use Rattle.std.specs.Float.{binary64}
 use Rattle.std.specs.Float.Ieee.{add, sub, mul, lt, le}
 use Rattle.loops.specs.Loop.{loop, Run, on, out, turn}
@@ -10,18 +10,19 @@ use Rattle.geom.specs.declared.vec2.Vec2.{Vec2}
 use Rattle.raster.specs.Contact.{angle_of}
 use Rattle.setup.specs.Place.{contact_at, bite_of}
 use Rattle.setup.specs.declared.Setup.{Setup}
-use Rattle.passes.specs.declared.shifts.Probe.{Probe}
-use Rattle.passes.specs.declared.shifts.Probe.TheVariants.{Counted, Barred}
+use Rattle.raster.specs.declared.contact.Contact.{Contact}
 use Rattle.passes.specs.declared.shifts.Shift.{Shift}
-use Rattle.passes.specs.declared.shifts.Shift.TheVariants.{At, Nothing}
 use Rattle.passes.specs.declared.shifts.Search.{Search}
 
 -- .. + 4.0 * cell
 unfoldable pub max_shift : Setup → Float
 max_shift s = add binary64 (bite_of s) (mul binary64 f4 s.grid.cell)
 
-abbrev pub sr : Shift → ℕ → Search
+abbrev pub sr : Option Shift → ℕ → Search
 sr f w = record { found = f; work = w }
+
+abbrev pub shifted : Vec2 → Float → Float → Shift
+shifted q e x = record { at = q; angle = e; shift = x }
 
 -- a u64 that stays at its end
 unfoldable pub sat_add : ℕ → ℕ → ℕ
@@ -40,46 +41,46 @@ abbrev pub sk : Float → ℕ → Seek
 sk sh w = record { sh = sh; work = w }
 
 -- what a try found ends the search; else the shift grows
-unfoldable pub grown : Float → Float → Shift → ℕ → Run Seek Search
-grown step sh Nothing w = on (sk (add binary64 sh step) w)
-grown step sh (At q e x) w = out (sr (At q e x) w)
+unfoldable pub grown : Float → Float → Option Shift → ℕ → Run Seek Search
+grown step sh None w = on (sk (add binary64 sh step) w)
+grown step sh (Some f) w = out (sr (Some f) w)
 
 unfoldable pub sought : Run Seek Search → Search
-sought (on k) = sr Nothing k.work
+sought (on k) = sr None k.work
 sought (out r) = r
 
 module _ (s : Setup) (allowed : Vec2 → Bool) (m : List ℕ) where
   -- ---- one probe
 
-  unfoldable pub probe_of : Vec2 → Probe
-  probe_of q = cond (allowed q) (Counted (contact_at s m q s.r_guard)) Barred
+  unfoldable pub probe_of : Vec2 → Option Contact
+  probe_of q = cond (allowed q) (Some (contact_at s m q s.r_guard)) None
 
   -- a contact that was counted is work, whether its angle serves or not
-  unfoldable pub judged : Vec2 → Float → Float → ℕ → Probe → Search
-  judged q sh limit work Barred = sr Nothing work
-  judged q sh limit work (Counted t) = sr (cond (le (angle_of t) limit) (At q (angle_of t) sh) Nothing) (sat_add work s.samples)
+  unfoldable pub judged : Vec2 → Float → Float → ℕ → Option Contact → Search
+  judged q sh limit work None = sr None work
+  judged q sh limit work (Some t) = sr (cond (le (angle_of t) limit) (Some (shifted q (angle_of t) sh)) None) (sat_add work s.samples)
 
   unfoldable pub try_of : Vec2 → Vec2 → Float → Float → ℕ → Search
   try_of g left sh limit work = judged (moved_of g left sh) sh limit work (probe_of (moved_of g left sh))
 
   -- back towards the guide, (shift - step).max(0.0), at or below the target
   unfoldable pub ease_of : Vec2 → Vec2 → Float → Float → ℕ → Search
-  ease_of g left step shift work = cond (lt f0 shift) (try_of g left (max_of (sub binary64 shift step) f0) s.target work) (sr Nothing work)
+  ease_of g left step shift work = cond (lt f0 shift) (try_of g left (max_of (sub binary64 shift step) f0) s.target work) (sr None work)
 
   -- ---- else outward, at or below the guard
 
   unfoldable pub look : Vec2 → Vec2 → Float → Float → ℕ → Seek → Run Seek Search
   look g left step most i k =
       let r = try_of g left k.sh s.guard k.work in
-      cond (le k.sh (add binary64 most tiny)) (grown step k.sh r.found r.work) (out (sr Nothing k.work))
+      cond (le k.sh (add binary64 most tiny)) (grown step k.sh r.found r.work) (out (sr None k.work))
 
   -- the shift grows at most 8,192 times: 8,193 tries
   unfoldable pub outward : Vec2 → Vec2 → Float → Float → Float → ℕ → Search
   outward g left step most shift work = sought (loop (turn (look g left step most)) 0 8193 (on (sk shift work)))
 
-  unfoldable pub or_outward : Vec2 → Vec2 → Float → Float → Float → Shift → ℕ → Search
-  or_outward g left step most shift Nothing w = outward g left step most shift w
-  or_outward g left step most shift (At q e x) w = sr (At q e x) w
+  unfoldable pub or_outward : Vec2 → Vec2 → Float → Float → Float → Option Shift → ℕ → Search
+  or_outward g left step most shift None w = outward g left step most shift w
+  or_outward g left step most shift (Some f) w = sr (Some f) w
 
   unfoldable pub search_of : Vec2 → Vec2 → Float → Float → Float → ℕ → Search
   search_of g left step most shift work =

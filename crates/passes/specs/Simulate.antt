@@ -1,5 +1,5 @@
 -- `simulate` of adaptive.rs, step by step. A loop is `loop`, one left from inside is `loop (turn ..)`. Definitions only.
-use Rattle.std.specs.Prelude.{ℕ, ◌+◌, ◌-◌, ◌/◌, ◌≤◌, max, Bool, true, false, cond, List, length, get_or, leb, Float}
+use Rattle.std.specs.Prelude.{ℕ, ◌+◌, ◌-◌, ◌/◌, ◌≤◌, max, Bool, true, false, cond, List, length, get_or, leb, Float, Option, Some, None}
 use Rattle.std.specs.Float.{nan, binary64}
 use Rattle.std.specs.Float.Ieee.{to_unsigned, add, mul, div, lt}
 use Rattle.loops.specs.Loop.{loop, Run, on, out, turn}
@@ -14,7 +14,6 @@ use Rattle.setup.specs.declared.Setup.{Setup}
 use Rattle.events.specs.Lent.{triple_at, set_triple}
 use Rattle.passes.specs.Shifts.{max_shift, search_of}
 use Rattle.passes.specs.declared.shifts.Shift.{Shift}
-use Rattle.passes.specs.declared.shifts.Shift.TheVariants.{At, Nothing}
 use Rattle.passes.specs.declared.trial.Leg.{Leg}
 use Rattle.passes.specs.declared.trial.Trial.{Trial}
 
@@ -76,12 +75,12 @@ advance_of s kept q e x p =
 
 module _ (s : Setup) (allowed : Vec2 → Bool) (kept : ℕ) where
   -- by what the search found: no shift, a gap and no room each end the pass
-  unfoldable pub went : Pass → Shift → Run Pass Pass
-  went p Nothing = out p
-  went p (At q e x) =
-      cond (gap_of (h_of s) (max_shift s) q p.trial.prev) (out p)
+  unfoldable pub went : Pass → Option Shift → Run Pass Pass
+  went p None = out p
+  went p (Some f) =
+      cond (gap_of (h_of s) (max_shift s) f.at p.trial.prev) (out p)
       (cond (leb (length p.out / 3) (kept + p.trial.points)) (out (filled p))
-      (on (advance_of s kept q e x p)))
+      (on (advance_of s kept f.at f.angle f.shift p)))
 
   unfoldable pub sample_step : Leg → ℕ → Pass → Run Pass Pass
   sample_step l k p =

@@ -1,15 +1,17 @@
 -- Where a pass starts on a closed piece, as `cut_piece` of adaptive.rs has it. Definitions only.
-use Rattle.std.specs.Prelude.{ℕ, ◌+◌, ◌*◌, ◌/◌, ◌%◌, Bool, true, false, cond, List, length, get_or, Float}
+use Rattle.std.specs.Prelude.{Option, ℕ, ◌+◌, ◌*◌, ◌/◌, ◌%◌, Bool, true, false, cond, List, length, get_or, Float, Some, None}
 use Rattle.loops.specs.Least.{least_by}
 use Rattle.numbers.specs.Order.{total_of}
-use Rattle.numbers.specs.declared.order.Ordering.{Ordering}
-use Rattle.numbers.specs.declared.order.Ordering.TheVariants.{Less, Equal, Greater}
+use Rattle.std.specs.declared.cmp.Ordering.{Ordering}
+use Rattle.std.specs.declared.cmp.Ordering.TheVariants.{Less, Equal, Greater}
 use Rattle.geom.specs.Vec.{distance_of}
 use Rattle.geom.specs.declared.vec2.Vec2.{Vec2}
 use Rattle.passes.specs.Simulate.{nowhere}
 use Rattle.passes.specs.declared.start.Near.{Near}
-use Rattle.passes.specs.declared.start.Place.{Place}
-use Rattle.passes.specs.declared.start.Place.TheVariants.{At, Nowhere}
+
+-- where the tool is; at first it is nowhere
+abbrev pub Place : Type 0
+Place = Option Vec2
 
 unfoldable pub is_greater : Ordering → Bool
 is_greater Less = false
@@ -36,8 +38,8 @@ nearest_of pts p = least_by is_nearer (point_far pts p) (length pts)
 
 -- pos.map_or(0, ..)
 unfoldable pub near_of : List Vec2 → Place → ℕ
-near_of pts Nowhere = 0
-near_of pts (At p) = nearest_of pts p
+near_of pts None = 0
+near_of pts (Some p) = nearest_of pts p
 
 -- the kth of four starts round the piece: (near + k * n / 4) % n
 unfoldable pub start_of : ℕ → ℕ → ℕ → ℕ

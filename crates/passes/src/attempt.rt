@@ -17,7 +17,7 @@ use super::worth::worth;
 use setup::{Setup, layout};
 
 // What became of a guide: the triples of its pass do not fit; a pass of so many points that is to be kept,
-// the cells that it removes and the work; or no such pass, and the work.
+// the cells that it removes and the work; or no such pass, and the work. A Result of an Option would say the work twice.
 #[derive(Clone, Copy)]
 pub enum Attempt {
     Full,
@@ -51,7 +51,7 @@ pub fn try_guide(
     let t = simulate(
         s, wall, vs, lens, rim, guide, map, &tiles, log, triples, kept,
     );
-    raster::log::undo(map, log, t.removed);
+    raster::log::undo(map, &log[..t.removed]);
     if t.full {
         return Attempt::Full;
     }

@@ -17,9 +17,9 @@ use setup::place::bite_of;
 
 // How a guide is bent: over what length, and how far out at its start.
 #[derive(Clone, Copy)]
-pub enum Blend {
-    By(f64, f64),
-    Nothing,
+pub struct Blend {
+    pub len: f64,
+    pub far: f64,
 }
 
 // The guide's length.
@@ -103,7 +103,14 @@ fn far_of(cell: f64, r: f64, bite: f64, k: usize) -> f64
 }
 
 // The first of three ways out at whose start the tool may be and touches no stock.
-pub fn choose(s: Setup, wall: &[f64], vs: &[f64], lens: &[u32], map: &[u8], guide: &[f64]) -> Blend
+pub fn choose(
+    s: Setup,
+    wall: &[f64],
+    vs: &[f64],
+    lens: &[u32],
+    map: &[u8],
+    guide: &[f64],
+) -> Option<Blend>
     requires walls { Walls s wall.now vs.now lens.now }
     requires over { Over s.grid (length map.now) }
     requires in_bounds { 2 ≤ length guide.now }
@@ -114,17 +121,17 @@ pub fn choose(s: Setup, wall: &[f64], vs: &[f64], lens: &[u32], map: &[u8], guid
     let r = s.r;
     let len = numbers::order::min(3.0 * r, 0.5 * total(guide));
     if len <= cell {
-        return Blend::Nothing;
+        return None;
     }
     let bite = bite_of(s);
     for k in 0..3usize {
         let far = far_of(cell, r, bite, k);
         let q = first_bent(guide, len, far);
         if starts_at(s, wall, vs, lens, map, q) {
-            return Blend::By(len, far);
+            return Some(Blend { len, far });
         }
     }
-    Blend::Nothing
+    None
 }
 
 // Bends the guide, in its place.
@@ -196,10 +203,10 @@ pub fn blend_in(
 {
     let e = at + 2 * m;
     let b = choose(s, &w[0..cells], vs, lens, map, &w[at..e]);
-    let Blend::By(len, far) = b else {
+    let Some(blend) = b else {
         return false;
     };
-    bend(&mut w[at..e], len, far);
+    bend(&mut w[at..e], blend.len, blend.far);
     true
 }
 

@@ -7,14 +7,8 @@ ghost use Rattle.passes.specs.Start.{is_greater, is_nearer, nearer, nearest_of, 
 
 use geom::region::vertex;
 use geom::vec2::Vec2;
-use numbers::order::{Ordering, total_cmp};
-
-// Where the tool is; at first it is nowhere.
-#[derive(Clone, Copy)]
-pub enum Place {
-    At(Vec2),
-    Nowhere,
-}
+use numbers::order::total_cmp;
+use std::cmp::Ordering;
 
 // A point's number, and how far it is.
 #[derive(Clone, Copy)]
@@ -65,11 +59,12 @@ fn nearest(piece: &[f64], p: Vec2) -> usize
     best.at
 }
 
-pub fn near_start(piece: &[f64], pos: Place) -> usize
+// `pos` is where the tool is; at first it is nowhere.
+pub fn near_start(piece: &[f64], pos: Option<Vec2>) -> usize
     requires { 2 ≤ length piece.now }
     ensures { result ≡ near_of (points 0 (length piece.now / 2) piece.now) pos }
 {
-    let Place::At(p) = pos else {
+    let Some(p) = pos else {
         return 0;
     };
     nearest(piece, p)

@@ -10,6 +10,7 @@ ghost use Rattle.passes.specs.Simulate.{leg_of, sample_of, gap_of, ps, advance_o
 use super::shifts::{Shift, find_shift, max_shift};
 use geom::region::vertex;
 use geom::vec2::Vec2;
+use links::straight::Ground;
 use numbers::cast::float_of;
 use setup::Setup;
 use spans::crescent::clear_crescent;
@@ -23,7 +24,7 @@ pub struct Leg {
     pub n: usize,
 }
 
-// What a pass has come to, beside the map, the log and the triples: `full` where the triples do not fit,
+// What a pass has come to, beside the map, the log and the triples: `full` where the triples do not fit (the rest counts then too),
 // its points, the cells it cleared, the work, and the last point with its shift.
 #[derive(Clone, Copy)]
 pub struct Trial {
@@ -88,27 +89,25 @@ fn advance(
     triples: &mut [f64],
     kept: usize,
     t: Trial,
-    q: Vec2,
-    e: f64,
-    x: f64,
+    f: Shift,
 ) -> Trial
     requires tables { Tables s rim.now }
     requires fit { Fit s (ps map.old log.old triples.old t) }
     requires points_in_bounds { kept + t.points < length triples.old / 3 }
-    ensures { ps map.new log.new triples.new result ≡ advance_of s kept q e x (ps map.old log.old triples.old t) }
+    ensures { ps map.new log.new triples.new result ≡ advance_of s kept f.at f.angle f.shift (ps map.old log.old triples.old t) }
 {
     let g = s.grid;
     let at = kept + t.points;
     let points = t.points + 1;
-    let n = clear_crescent(g, map, t.prev, q, s.r, &rim[6144..8192], log, t.removed);
-    events::list::put_triple(triples, at, q, e);
+    let n = clear_crescent(g, map, t.prev, f.at, s.r, &rim[6144..8192], log, t.removed);
+    events::list::put_triple(triples, at, f.at, f.angle);
     Trial {
         full: t.full,
         points,
         removed: n,
         work: t.work,
-        prev: q,
-        shift: x,
+        prev: f.at,
+        shift: f.shift,
     }
 }
 
@@ -165,22 +164,28 @@ pub fn simulate(
         let n = leg.n;
         for k in 0..n {
             let at = sample(leg, k + 1);
-            let f = find_shift(
-                s, wall, vs, lens, rim, map, tiles, at, left, step, most, t.shift, t.work,
-            );
+            let ground = Ground {
+                setup: s,
+                wall,
+                vs,
+                lens,
+                map,
+                tiles,
+                rim,
+            };
+            let f = find_shift(&ground, at, left, step, most, t.shift, t.work);
             t.work = f.work;
-            let found = f.found;
-            let Shift::At(q, e, x) = found else {
+            let Some(shift) = f.found else {
                 break 'outer; // no shift serves
             };
-            if gap(h, most, q, t.prev) {
+            if gap(h, most, shift.at, t.prev) {
                 break 'outer;
             }
             if room <= kept + t.points {
                 t.full = true;
                 break 'outer;
             }
-            t = advance(s, rim, map, log, triples, kept, t, q, e, x);
+            t = advance(s, rim, map, log, triples, kept, t, shift);
         }
     }
     t

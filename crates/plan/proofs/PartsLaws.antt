@@ -6,7 +6,6 @@ use mathlib.Core.Logic.{⊎_elim}
 use Prim.Native.Nat.{ℕ, ◌+◌, ◌-◌, ◌*◌, ◌/◌, ◌≤◌, ◌<◌}
 use native.Mathlib.Omega.{arith}
 use lib.ListN.{length}
-use lib.Dec.{eqb}
 use lib.Ieee.{Float}
 use denote.Enum.Declared.{tag_of}
 use types.Run.{OneOf}
@@ -24,7 +23,7 @@ use Rattle.links.specs.Path.{wall_in}
 use Rattle.events.specs.Chunk.{helix}
 use Rattle.events.specs.Events.{Event}
 use Rattle.events.proofs.ShiftLaws.{set3-long}
-use Rattle.cutting.specs.Listing.{needs, refusal_of}
+use Rattle.cutting.specs.Listing.{needs, room_of}
 use Rattle.cutting.specs.Piece.{spending, Listed}
 use Rattle.cutting.specs.declared.piece.State.{State}
 use Rattle.workspace.specs.Standing.{reach_in, abandoned_in, Standing, CellsKept}
@@ -33,124 +32,129 @@ use Rattle.workspace.proofs.StandingLaws.{wall-kept, standing-kept, walls-same, 
 use Rattle.tracing.specs.Round.{work_of, TracedRound}
 use Rattle.tracing.specs.Ring.{TracedRing}
 use Rattle.tracing.specs.declared.round.Traced.{Traced}
-use Rattle.rounds.specs.Round.{cuts_in, cut_pieces_of, cut_ring_of, Lists}
-use Rattle.rounds.specs.Round.{ListedAfter as CutsListed}
-use Rattle.rounds.specs.declared.round.Cuts.{Cuts}
-use Rattle.rounds.specs.declared.round.Cuts.TheVariants.{After, Refused as Stopped}
-use Rattle.helix.specs.Search.{Seeking, Sought, sk, sought_end, step_by, seek_step, attempt_of, seek_of}
-use Rattle.helix.specs.Enter.{left_in, bored_of, listed_of, after_search, helix_of, Settled}
+use Rattle.rounds.specs.Round.{Cuts, cuts_in, cut_pieces_of, cut_ring_of, Lists}
+use Rattle.rounds.specs.Round.{Cuts, ListedAfter as CutsListed}
+use Rattle.helix.specs.Search.{Found, Seeking, Sought, sk, sought_end, step_by, seek_step, attempt_of, seek_of}
+use Rattle.helix.specs.Enter.{Entered, left_in, bored_of, listed_where, listed_of, after_search, helix_of, Settled}
 use Rattle.helix.specs.Enter.{Left as HelixLeft, WithEvents as HelixDone}
 use Rattle.helix.specs.declared.search.Attempt.{Attempt}
 use Rattle.helix.specs.declared.search.Attempt.TheVariants.{Fits as Fitted, GivenUp, Nothing as NoPlace}
-use Rattle.helix.specs.declared.search.Found.{Found}
-use Rattle.helix.specs.declared.search.Found.TheVariants.{Helix, Nothing}
-use Rattle.helix.specs.declared.enter.Entered.{Entered}
-use Rattle.helix.specs.declared.enter.Entered.TheVariants.{Bored, NoRoom, Refused as Barred}
 use Rattle.helix.proofs.EnterLaws.{settled-cells, settled-dirty, helix-listed}
 use Rattle.helix.proofs.EnterLaws.{ListedAfter as HelixListed}
-use Rattle.plan.specs.Parts.{Ground, Slices, slices, progress, Left, lf, WithEvents, with_events, places_of, after_pieces, after_ring, after_helix, field_now, pieces_cut, pieces_part, ring_cut, ring_part, helix_entered, helix_part, onward, then_do, rest_of, round_of, slices_in, ground_in, ListedAfter, Kept}
+use Rattle.plan.specs.Parts.{Ground, Slices, slices, progress, Answer, Left, lf, WithEvents, with_events, places_of, pieces_step, after_pieces, ring_step, after_ring, helix_step, after_helix, field_now, pieces_cut, pieces_part, ring_cut, ring_part, helix_entered, helix_part, onward, then_do, rest_of, round_of, slices_in, ground_in, ListedAfter, Kept}
+use Rattle.std.specs.Prelude.{Option, Some, None}
+use Rattle.std.specs.Prelude.{Result, Ok, Err}
+use Rattle.cutting.specs.declared.listing.Full.{Full}
 use Rattle.plan.specs.declared.parts.Progress.{Progress}
 use Rattle.plan.specs.declared.parts.Step.{Step}
 use Rattle.plan.specs.contracts.parts.Step.{the_type}
-use Rattle.plan.specs.declared.parts.Step.TheVariants.{Next, Again, Done, Refused}
+use Rattle.plan.specs.declared.parts.Step.TheVariants.{Next, Again, Done}
 
 -- ---- the answers
 
-pub pieces_kept : (p : Progress) (c : Cuts) (t : State) (any : Bool) → c ≡ After t any → any ≡ true → Again (progress t false p.given false) ≡ after_pieces p c
+pub pieces_kept : (p : Progress) (t : State) (any : Bool) → any ≡ true → Again (progress t false p.given false) ≡ pieces_step p t any
+unfolding pieces_step
+pieces_kept p t any a = sym (ap (pieces_step p t) a)
+
+pub pieces_none : (p : Progress) (t : State) (any : Bool) → any ≡ false → Next (progress t false p.given p.cleanup) ≡ pieces_step p t any
+unfolding pieces_step
+pieces_none p t any a = sym (ap (pieces_step p t) a)
+
+pub ring_kept : (p : Progress) (t : State) (any : Bool) → any ≡ true → Again (progress t p.all p.given true) ≡ ring_step p t any
+unfolding ring_step
+ring_kept p t any a = sym (ap (ring_step p t) a)
+
+pub ring_none : (p : Progress) (t : State) (any : Bool) → any ≡ false → Next (progress t p.all p.given true) ≡ ring_step p t any
+unfolding ring_step
+ring_none p t any a = sym (ap (ring_step p t) a)
+
+pub helix-bored : (p : Progress) (e : Option State) (t : State) (n : ℕ) → e ≡ Some t → Again (progress t true (p.given + n) false) ≡ helix_step p e n
+unfolding helix_step
+helix-bored p e t n x = sym (ap (λ (y : Option State). helix_step p y n) x)
+
+pub helix-none : (p : Progress) (e : Option State) (n : ℕ) → e ≡ None → Done (progress p.state p.all (p.given + n) p.cleanup) ≡ helix_step p e n
+unfolding helix_step
+helix-none p e n x = sym (ap (λ (y : Option State). helix_step p y n) x)
+
+pub pieces-answer : (p : Progress) (c : Cuts) (x : State × Bool) (r : Step) → c ≡ Ok x → r ≡ pieces_step p x.0 x.1 → Ok r ≡ after_pieces p c
 unfolding after_pieces
-pieces_kept p c t any e a = sym (ap (after_pieces p) e ∙ ap (λ (x : Bool). after_pieces p (After t x)) a)
+pieces-answer p c (t, any) r e h = ap Ok h ∙ sym (ap (after_pieces p) e)
 
-pub pieces_none : (p : Progress) (c : Cuts) (t : State) (any : Bool) → c ≡ After t any → any ≡ false → Next (progress t false p.given p.cleanup) ≡ after_pieces p c
+pub pieces-full : (p : Progress) (c : Cuts) (f : Full) → c ≡ Err f → Err f ≡ after_pieces p c
 unfolding after_pieces
-pieces_none p c t any e a = sym (ap (after_pieces p) e ∙ ap (λ (x : Bool). after_pieces p (After t x)) a)
+pieces-full p c f e = sym (ap (after_pieces p) e)
 
-pub pieces-refused : (p : Progress) (c : Cuts) (n : ℕ) → c ≡ Stopped n → Refused n ≡ after_pieces p c
-unfolding after_pieces
-pieces-refused p c n e = sym (ap (after_pieces p) e)
-
-pub ring_kept : (p : Progress) (c : Cuts) (t : State) (any : Bool) → c ≡ After t any → any ≡ true → Again (progress t p.all p.given true) ≡ after_ring p c
+pub ring_answer : (p : Progress) (c : Cuts) (x : State × Bool) (r : Step) → c ≡ Ok x → r ≡ ring_step p x.0 x.1 → Ok r ≡ after_ring p c
 unfolding after_ring
-ring_kept p c t any e a = sym (ap (after_ring p) e ∙ ap (λ (x : Bool). after_ring p (After t x)) a)
+ring_answer p c (t, any) r e h = ap Ok h ∙ sym (ap (after_ring p) e)
 
-pub ring_none : (p : Progress) (c : Cuts) (t : State) (any : Bool) → c ≡ After t any → any ≡ false → Next (progress t p.all p.given true) ≡ after_ring p c
+pub ring_full : (p : Progress) (c : Cuts) (f : Full) → c ≡ Err f → Err f ≡ after_ring p c
 unfolding after_ring
-ring_none p c t any e a = sym (ap (after_ring p) e ∙ ap (λ (x : Bool). after_ring p (After t x)) a)
+ring_full p c f e = sym (ap (after_ring p) e)
 
-pub ring_refused : (p : Progress) (c : Cuts) (n : ℕ) → c ≡ Stopped n → Refused n ≡ after_ring p c
-unfolding after_ring
-ring_refused p c n e = sym (ap (after_ring p) e)
+pub helix-answer : (p : Progress) (e : Entered) (x : Option State × ℕ) (r : Step) → e ≡ Ok x → r ≡ helix_step p x.0 x.1 → Ok r ≡ after_helix p e
+unfolding after_helix
+helix-answer p e (t, n) r q h = ap Ok h ∙ sym (ap (after_helix p) q)
 
-pub bored-sum : (p : Progress) (e : Entered) (t : State) (n : ℕ) → e ≡ Bored t n → p.given + places_of e ≤ 1000000 → p.given + n ≤ 1000000
+pub helix-full : (p : Progress) (e : Entered) (f : Full) → e ≡ Err f → Err f ≡ after_helix p e
+unfolding after_helix
+helix-full p e f q = sym (ap (after_helix p) q)
+
+pub places-sum : (p : Progress) (e : Entered) (x : Option State × ℕ) → e ≡ Ok x → p.given + places_of e ≤ 1000000 → p.given + x.1 ≤ 1000000
 unfolding places_of
-bored-sum p e t n x h = subst (λ (y : Entered). p.given + places_of y ≤ 1000000) x h
-
-pub none-sum : (p : Progress) (e : Entered) (n : ℕ) → e ≡ NoRoom n → p.given + places_of e ≤ 1000000 → p.given + n ≤ 1000000
-unfolding places_of
-none-sum p e n x h = subst (λ (y : Entered). p.given + places_of y ≤ 1000000) x h
-
-pub helix-bored : (p : Progress) (e : Entered) (t : State) (n : ℕ) → e ≡ Bored t n → Again (progress t true (p.given + n) false) ≡ after_helix p e
-unfolding after_helix
-helix-bored p e t n x = sym (ap (after_helix p) x)
-
-pub helix-none : (p : Progress) (e : Entered) (n : ℕ) → e ≡ NoRoom n → Done (progress p.state p.all (p.given + n) p.cleanup) ≡ after_helix p e
-unfolding after_helix
-helix-none p e n x = sym (ap (after_helix p) x)
-
-pub helix-refused : (p : Progress) (e : Entered) (n : ℕ) → e ≡ Barred n → Refused n ≡ after_helix p e
-unfolding after_helix
-helix-refused p e n x = sym (ap (after_helix p) x)
+places-sum p e (t, n) q h = subst (λ (y : Entered). p.given + places_of y ≤ 1000000) q h
 
 -- what is listed after them
 
 pieces-listed : (p : Progress) (rows : List ℕ) (o : List Float) (c : Cuts) → CutsListed rows o c → ListedAfter rows o (after_pieces p c)
-unfolding after_pieces
-pieces-listed p rows o (After t true) L = L
-pieces-listed p rows o (After t false) L = L
-pieces-listed p rows o (Stopped n) L = tt
+unfolding after_pieces pieces_step
+pieces-listed p rows o (Ok (t, true)) L = L
+pieces-listed p rows o (Ok (t, false)) L = L
+pieces-listed p rows o (Err f) L = tt
 
 ring_listed : (p : Progress) (rows : List ℕ) (o : List Float) (c : Cuts) → CutsListed rows o c → ListedAfter rows o (after_ring p c)
-unfolding after_ring
-ring_listed p rows o (After t true) L = L
-ring_listed p rows o (After t false) L = L
-ring_listed p rows o (Stopped n) L = tt
+unfolding after_ring ring_step
+ring_listed p rows o (Ok (t, true)) L = L
+ring_listed p rows o (Ok (t, false)) L = L
+ring_listed p rows o (Err f) L = tt
 
 entered-listed : (p : Progress) (rows : List ℕ) (o : List Float) (e : Entered) → HelixListed p.state rows o e → ListedAfter rows o (after_helix p e)
-unfolding after_helix
-entered-listed p rows o (Bored t n) L = L
-entered-listed p rows o (NoRoom n) L = L
-entered-listed p rows o (Barred n) L = tt
+unfolding after_helix helix_step
+entered-listed p rows o (Ok (Some t, n)) L = L
+entered-listed p rows o (Ok (None, n)) L = L
+entered-listed p rows o (Err f) L = tt
 
 -- ---- the places given up, at most k
 
-abbrev pub Gives : ℕ → Step → Type 0
-Gives k (Next p) = p.given ≤ k
-Gives k (Again p) = p.given ≤ k
-Gives k (Done p) = p.given ≤ k
-Gives k (Refused n) = Unit {0}
+abbrev pub Gives : ℕ → Answer → Type 0
+Gives k (Ok (Next p)) = p.given ≤ k
+Gives k (Ok (Again p)) = p.given ≤ k
+Gives k (Ok (Done p)) = p.given ≤ k
+Gives k (Err e) = Unit {0}
 
 pieces_gives : (p : Progress) (k : ℕ) → p.given ≤ k → (c : Cuts) → Gives k (after_pieces p c)
-unfolding after_pieces
-pieces_gives p k h (After t true) = h
-pieces_gives p k h (After t false) = h
-pieces_gives p k h (Stopped n) = tt
+unfolding after_pieces pieces_step
+pieces_gives p k h (Ok (t, true)) = h
+pieces_gives p k h (Ok (t, false)) = h
+pieces_gives p k h (Err f) = tt
 
 ring_gives : (p : Progress) (k : ℕ) → p.given ≤ k → (c : Cuts) → Gives k (after_ring p c)
-unfolding after_ring
-ring_gives p k h (After t true) = h
-ring_gives p k h (After t false) = h
-ring_gives p k h (Stopped n) = tt
+unfolding after_ring ring_step
+ring_gives p k h (Ok (t, true)) = h
+ring_gives p k h (Ok (t, false)) = h
+ring_gives p k h (Err f) = tt
 
 entered_gives : (p : Progress) (k : ℕ) → p.given ≤ k → (e : Entered) → places_of e ≤ 64 → Gives (k + 64) (after_helix p e)
-unfolding after_helix places_of
-entered_gives p k h (Bored t n) l = omega (arith, h, l)
-entered_gives p k h (NoRoom n) l = omega (arith, h, l)
-entered_gives p k h (Barred n) l = tt
+unfolding after_helix helix_step places_of
+entered_gives p k h (Ok (Some t, n)) l = omega (arith, h, l)
+entered_gives p k h (Ok (None, n)) l = omega (arith, h, l)
+entered_gives p k h (Err f) l = tt
 
 -- ---- fits helix: a search gives up at most 64 places, and rows and triples keep their lengths
 
 abbrev found_places : Found → ℕ
-found_places (Nothing n) = n
-found_places (Helix c rad n) = n
+found_places (None, n) = n
+found_places (Some (c, rad), n) = n
 
 module _ (s : Setup) (wall vs : List Float) (lens allowed reach : List ℕ) (pref : Float) (m : List ℕ) where
   abbrev Few : Run Seeking Sought → Type 0
@@ -184,16 +188,17 @@ pub record Answered (rows : List ℕ) (o : List Float) (q : HelixDone) : Type 0 
 
 module _ (s : Setup) (t : State) (m gone rows : List ℕ) (o : List Float) where
   listed-answered : (c : Vec2) (rad : Float) (n : ℕ) → n ≤ 64 → (es : List Event) → Answered rows o (listed_of s t m gone rows o c rad n es)
-  unfolding listed_of bored_of places_of
-  listed-answered c rad n h es =
-      by_test (Answered rows o) (eqb (refusal_of (length o / 3 - t.triples) (length rows / 3 - t.rows) (needs (helix c rad ∷ []))) 0) _ _
-      (λ z. record { few = h; rows_long = set3-long rows (t.rows * 3) 1 t.triples 1; out-long = set3-long o (t.triples * 3) c.x c.y rad })
-      (λ z. record { few = omega arith; rows_long = refl; out-long = refl })
+  unfolding listed_of listed_where bored_of places_of
+  listed-answered c rad n h es = where_answered (room_of (length o / 3 - t.triples) (length rows / 3 - t.rows) (needs (helix c rad ∷ [])))
+    where
+      where_answered : (r : Result Unit Full) → Answered rows o (listed_where s t m gone rows o r c rad n es)
+      where_answered (Ok u) = record { few = h; rows_long = set3-long rows (t.rows * 3) 1 t.triples 1; out-long = set3-long o (t.triples * 3) c.x c.y rad }
+      where_answered (Err f) = record { few = omega arith; rows_long = refl; out-long = refl }
 
   found-answered : (f : Found) → found_places f ≤ 64 → (es : List Event) → Answered rows o (after_search s t m gone rows o f es)
   unfolding after_search places_of
-  found-answered (Nothing n) h es = record { few = h; rows_long = refl; out-long = refl }
-  found-answered (Helix c rad n) h es = listed-answered c rad n h es
+  found-answered (None, n) h es = record { few = h; rows_long = refl; out-long = refl }
+  found-answered (Some (c, rad), n) h es = listed-answered c rad n h es
 
 pub helix-answered : (s : Setup) (wall vs : List Float) (lens allowed reach : List ℕ) (pref : Float) (t : State) (m gone rows : List ℕ) (o : List Float)
     → Answered rows o (helix_of s wall vs lens allowed reach pref t m gone rows o)
@@ -230,7 +235,7 @@ module _ (s : Setup) (vs : List Float) (lens : List ℕ) (p : Progress) (b u : L
     module _ (b₂ u₂ : List ℕ) (w₂ o₂ : List Float) (rows₂ : List ℕ) (c : Cuts)
         (E : cuts_in n b₂ (log_in n u₂) rows₂ o₂ c ≡ (cut_pieces_of s (wall_in s w₁) vs lens (allowed_in n b₁) (pieces_in n q.pieces u₁ w₁) t (map_in n b₁) (dirty_in n b₁) rows (log_in n u₁) o).left)
         (K : CellsKept n b₁ b₂) (A : abandoned_in n b₂ ≡ abandoned_in n b₁) (U : length u₂ ≡ length u₁) (O : Only (guide_from n) (path_end n) w₁ w₂) (M : Lists rows rows₂ o o₂ c)
-        (r : Step) (R : r ≡ after_pieces p c) where
+        (r : Answer) (R : r ≡ after_pieces p c) where
       spent : (pref : Float) → t ≡ spending (work_of s (field_now (g pref) p h).sampled) p.state
       spent pref = S ∙ ap (λ (x : ℕ). spending x p.state) T.work
 
@@ -264,11 +269,11 @@ module _ (s : Setup) (vs : List Float) (lens : List ℕ) (p : Progress) (b u : L
       let l = c.left in
       with_events (slices l.map l.dirty h.gone l.log h.field l.rows l.out) (after_ring p l.answer) c.events
 
-  ring_by : (pref : Float) (x : Bool) → p.cleanup ≡ x → ring_part (g pref) p h ≡ cond x (with_events h (Next p) []) (ring_whole pref)
+  ring_by : (pref : Float) (x : Bool) → p.cleanup ≡ x → ring_part (g pref) p h ≡ cond x (with_events h (Ok (Next p)) []) (ring_whole pref)
   unfolding ring_part
-  ring_by pref x e = ap (λ (z : Bool). cond z (with_events h (Next p) []) (ring_whole pref)) e
+  ring_by pref x e = ap (λ (z : Bool). cond z (with_events h (Ok (Next p)) []) (ring_whole pref)) e
 
-  pub ring_done : p.cleanup ≡ true → ((pref : Float) → lf h (Next p) ≡ (ring_part (g pref) p h).left) × Kept n b u rows f w o b u rows f w o (Next p)
+  pub ring_done : p.cleanup ≡ true → ((pref : Float) → lf h (Ok (Next p)) ≡ (ring_part (g pref) p h).left) × Kept n b u rows f w o b u rows f w o (Ok (Next p))
   ring_done e = (
     λ pref. sym (ap (λ (q : WithEvents). q.left) (ring_by pref true e)),
     record { cells = cells_same n b; words_long = refl; singles-long = refl; walls = walls-same s vs lens b u w H; rows_long = refl; out-long = refl; listed = L },
@@ -284,7 +289,7 @@ module _ (s : Setup) (vs : List Float) (lens : List ℕ) (p : Progress) (b u : L
     module _ (b₂ u₂ : List ℕ) (w₂ o₂ : List Float) (rows₂ : List ℕ) (c : Cuts)
         (E : cuts_in n b₂ (log_in n u₂) rows₂ o₂ c ≡ (cut_ring_of s (wall_in s w₁) vs lens (allowed_in n b₁) (pieces_in n q u₁ w₁) p.state (map_in n b₁) (dirty_in n b₁) rows (log_in n u₁) o).left)
         (K : CellsKept n b₁ b₂) (A : abandoned_in n b₂ ≡ abandoned_in n b₁) (U : length u₂ ≡ length u₁) (O : Only (guide_from n) (path_end n) w₁ w₂) (M : Lists rows rows₂ o o₂ c)
-        (r : Step) (R : r ≡ after_ring p c) (no : p.cleanup ≡ false) where
+        (r : Answer) (R : r ≡ after_ring p c) (no : p.cleanup ≡ false) where
       ring_is : (pref : Float) → cuts_in n b₂ (log_in n u₂) rows₂ o₂ c ≡ (ring_cut (g pref) p h).left
       ring_is pref = E ∙ (λ i. (cut_ring_of s (wall-kept s vs lens b u w H w₁ T.walls i) vs lens (T.cells.allowed i) (T.lies.is i) p.state (T.map i) (T.dirty i) rows (T.log i) o).left)
 
@@ -315,7 +320,7 @@ module _ (s : Setup) (vs : List Float) (lens : List ℕ) (p : Progress) (b u : L
         let k : places_of e ≤ 64 = subst (λ (x : Entered). places_of x ≤ 64) (sym (ap (λ (x : HelixLeft). x.answer) E)) answered.few in
         omega (arith, l, k)
 
-    module _ (S : Settled n b b₂) (O : Only (heap_from n) (segments_from n) u u₂) (r : Step) (R : r ≡ after_helix p e) where
+    module _ (S : Settled n b b₂) (O : Only (heap_from n) (segments_from n) u u₂) (r : Answer) (R : r ≡ after_helix p e) where
       heap_fits : Fits (heap_from n) (segments_from n) u
       heap_fits = record { start = omega arith; end = omega (arith, H.words) }
 
@@ -346,42 +351,43 @@ module _ (s : Setup) (vs : List Float) (lens : List ℕ) (p : Progress) (b u : L
 -- ---- one part after another
 
 -- the answer is another than to go on
-abbrev Leaves : Step → Type 0
-Leaves a = OneOf (1 ∷ 2 ∷ 3 ∷ []) (tag_of the_type a)
+abbrev pub Leaves : Answer → Type 0
+Leaves (Ok a) = OneOf (1 ∷ 2 ∷ []) (tag_of the_type a)
+Leaves (Err f) = Unit {0}
 
-module _ (part : Progress → Slices → WithEvents) (q : WithEvents) (h : Slices) (a : Step) (E : lf h a ≡ q.left) where
+module _ (part : Progress → Slices → WithEvents) (q : WithEvents) (h : Slices) (a : Answer) (E : lf h a ≡ q.left) where
   then_is : (onward part h a q.events).left ≡ (then_do part q).left
   then_is = λ i. (onward part (E i).slices (E i).answer q.events).left
 
-  left_as : (a : Step) → Leaves a → lf h a ≡ (onward part h a q.events).left
+  left_as : (a : Answer) → Leaves a → lf h a ≡ (onward part h a q.events).left
   unfolding onward
-  left_as (Next p) k = absurd (⊎_elim (λ z. let y : ⊥ = omega (arith, z) in y) (λ k. ⊎_elim (λ z. let y : ⊥ = omega (arith, z) in y) (λ z. let y : ⊥ = omega (arith, z) in y) k) k)
-  left_as (Again p) k = refl
-  left_as (Done p) k = refl
-  left_as (Refused n) k = refl
+  left_as (Ok (Next p)) k = absurd (⊎_elim (λ z. let y : ⊥ = omega (arith, z) in y) (λ z. let y : ⊥ = omega (arith, z) in y) k)
+  left_as (Ok (Again p)) k = refl
+  left_as (Ok (Done p)) k = refl
+  left_as (Err e) k = refl
 
   pub then_left : Leaves a → lf h a ≡ (then_do part q).left
   then_left k = left_as a k ∙ then_is
 
-  pub then_on : (p : Progress) → a ≡ Next p → (h' : Slices) (r : Step) → lf h' r ≡ (part p h).left → lf h' r ≡ (then_do part q).left
+  pub then_on : (p : Progress) → a ≡ Ok (Next p) → (h' : Slices) (r : Answer) → lf h' r ≡ (part p h).left → lf h' r ≡ (then_do part q).left
   unfolding onward
-  then_on p A h' r F = F ∙ ap (λ (x : Step). (onward part h x q.events).left) (sym A) ∙ then_is
+  then_on p A h' r F = F ∙ ap (λ (x : Answer). (onward part h x q.events).left) (sym A) ∙ then_is
 
 module _ (s : Setup) (vs : List Float) (lens : List ℕ) (pref : Float) (b u : List ℕ) (f w o : List Float) (rows : List ℕ) (H : Standing s vs lens b u w)
-    (b₁ u₁ : List ℕ) (f₁ w₁ o₁ : List Float) (rows₁ : List ℕ) (a : Step) (K : Kept (cells_of s) b u rows f w o b₁ u₁ rows₁ f₁ w₁ o₁ a) where
+    (b₁ u₁ : List ℕ) (f₁ w₁ o₁ : List Float) (rows₁ : List ℕ) (a : Answer) (K : Kept (cells_of s) b u rows f w o b₁ u₁ rows₁ f₁ w₁ o₁ a) where
   pub kept-standing : Standing s vs lens b₁ u₁ w₁
   kept-standing = standing-kept s vs lens b u w H w₁ K.walls b₁ u₁ K.cells.long K.words_long
 
   pub kept-singles : 2 * cells_of s ≤ length f → 2 * cells_of s ≤ length f₁
   kept-singles l = omega (arith, l, K.singles-long)
 
-  pub kept-listed : (p : Progress) → a ≡ Next p → Listed rows₁ o₁ p.state 0
+  pub kept-listed : (p : Progress) → a ≡ Ok (Next p) → Listed rows₁ o₁ p.state 0
   kept-listed p A = subst (ListedAfter rows₁ o₁) A K.listed
 
   pub kept_ground : ground_in s vs lens pref b₁ w₁ ≡ ground_in s vs lens pref b w
   kept_ground = λ i. record { setup = s; wall = wall-kept s vs lens b u w H w₁ K.walls i; vs = vs; lens = lens; allowed = K.cells.allowed i; reach = K.cells.reach i; pref = pref }
 
-  pub kept_more : (b₂ u₂ : List ℕ) (f₂ w₂ o₂ : List Float) (rows₂ : List ℕ) (r : Step) → Kept (cells_of s) b₁ u₁ rows₁ f₁ w₁ o₁ b₂ u₂ rows₂ f₂ w₂ o₂ r → Kept (cells_of s) b u rows f w o b₂ u₂ rows₂ f₂ w₂ o₂ r
+  pub kept_more : (b₂ u₂ : List ℕ) (f₂ w₂ o₂ : List Float) (rows₂ : List ℕ) (r : Answer) → Kept (cells_of s) b₁ u₁ rows₁ f₁ w₁ o₁ b₂ u₂ rows₂ f₂ w₂ o₂ r → Kept (cells_of s) b u rows f w o b₂ u₂ rows₂ f₂ w₂ o₂ r
   kept_more b₂ u₂ f₂ w₂ o₂ rows₂ r M = record {
     cells = cells_more (cells_of s) b b₁ b₂ K.cells M.cells;
     words_long = M.words_long ∙ K.words_long;
@@ -408,13 +414,13 @@ module _ (g : Ground) where
   helix_part_gives p h k l =
       entered_gives p k l _ (helix-answered g.setup g.wall g.vs g.lens g.allowed g.reach g.pref p.state h.map h.gone h.rows h.out).few
 
-  onward_gives : (part : Progress → Slices → WithEvents) (k : ℕ) → ((p : Progress) (h : Slices) → p.given ≤ k → Gives (k + 64) (part p h).left.answer) → (h : Slices) (a : Step) (es : List Event) → Gives k a
+  onward_gives : (part : Progress → Slices → WithEvents) (k : ℕ) → ((p : Progress) (h : Slices) → p.given ≤ k → Gives (k + 64) (part p h).left.answer) → (h : Slices) (a : Answer) (es : List Event) → Gives k a
       → Gives (k + 64) (onward part h a es).left.answer
   unfolding onward
-  onward_gives part k f h (Next p) es l = f p h l
-  onward_gives part k f h (Again p) es l = omega (arith, l)
-  onward_gives part k f h (Done p) es l = omega (arith, l)
-  onward_gives part k f h (Refused n) es l = tt
+  onward_gives part k f h (Ok (Next p)) es l = f p h l
+  onward_gives part k f h (Ok (Again p)) es l = omega (arith, l)
+  onward_gives part k f h (Ok (Done p)) es l = omega (arith, l)
+  onward_gives part k f h (Err e) es l = tt
 
   rest_gives : (p : Progress) (h : Slices) (k : ℕ) → p.given ≤ k → Gives (k + 64) (rest_of g p h).left.answer
   unfolding rest_of
@@ -426,24 +432,24 @@ module _ (g : Ground) where
 
 -- ---- a round ends: no part is left to go on to
 
-abbrev pub Over : Step → Type 0
-Over (Next p) = ⊥
-Over (Again p) = Unit {0}
-Over (Done p) = Unit {0}
-Over (Refused n) = Unit {0}
+abbrev pub Over : Answer → Type 0
+Over (Ok (Next p)) = ⊥
+Over (Ok (Again p)) = Unit {0}
+Over (Ok (Done p)) = Unit {0}
+Over (Err e) = Unit {0}
 
-onward-over : (part : Progress → Slices → WithEvents) → ((p : Progress) (h : Slices) → Over (part p h).left.answer) → (h : Slices) (a : Step) (es : List Event) → Over (onward part h a es).left.answer
+onward-over : (part : Progress → Slices → WithEvents) → ((p : Progress) (h : Slices) → Over (part p h).left.answer) → (h : Slices) (a : Answer) (es : List Event) → Over (onward part h a es).left.answer
 unfolding onward
-onward-over part f h (Next p) es = f p h
-onward-over part f h (Again p) es = tt
-onward-over part f h (Done p) es = tt
-onward-over part f h (Refused n) es = tt
+onward-over part f h (Ok (Next p)) es = f p h
+onward-over part f h (Ok (Again p)) es = tt
+onward-over part f h (Ok (Done p)) es = tt
+onward-over part f h (Err e) es = tt
 
 entered-over : (p : Progress) (e : Entered) → Over (after_helix p e)
-unfolding after_helix
-entered-over p (Bored t n) = tt
-entered-over p (NoRoom n) = tt
-entered-over p (Barred n) = tt
+unfolding after_helix helix_step
+entered-over p (Ok (Some t, n)) = tt
+entered-over p (Ok (None, n)) = tt
+entered-over p (Err f) = tt
 
 module _ (g : Ground) where
   helix-over : (p : Progress) (h : Slices) → Over (helix_part g p h).left.answer
@@ -461,7 +467,7 @@ module _ (g : Ground) where
 -- ---- the ring, then the helix; the curves, then the rest
 
 module _ (s : Setup) (vs : List Float) (lens : List ℕ) (pref : Float) (p : Progress) (b u : List ℕ) (f w o : List Float) (rows : List ℕ) (H : Standing s vs lens b u w) (F : 2 * cells_of s ≤ length f)
-    (b₁ u₁ : List ℕ) (f₁ w₁ o₁ : List Float) (rows₁ : List ℕ) (a : Step) (K : Kept (cells_of s) b u rows f w o b₁ u₁ rows₁ f₁ w₁ o₁ a) where
+    (b₁ u₁ : List ℕ) (f₁ w₁ o₁ : List Float) (rows₁ : List ℕ) (a : Answer) (K : Kept (cells_of s) b u rows f w o b₁ u₁ rows₁ f₁ w₁ o₁ a) where
   abbrev ground : Ground
   ground = ground_in s vs lens pref b w
 
@@ -480,22 +486,22 @@ module _ (s : Setup) (vs : List Float) (lens : List ℕ) (pref : Float) (p : Pro
   same_ground : ground₁ ≡ ground
   same_ground = kept_ground s vs lens pref b u f w o rows H b₁ u₁ f₁ w₁ o₁ rows₁ a K
 
-  asks : (q : Progress) → a ≡ Next q → q.given ≤ 900000 → Asks q
+  asks : (q : Progress) → a ≡ Ok (Next q) → q.given ≤ 900000 → Asks q
   asks q A l = (
     kept-standing s vs lens pref b u f w o rows H b₁ u₁ f₁ w₁ o₁ rows₁ a K,
     (kept-singles s vs lens pref b u f w o rows H b₁ u₁ f₁ w₁ o₁ rows₁ a K F, (kept-listed s vs lens pref b u f w o rows H b₁ u₁ f₁ w₁ o₁ rows₁ a K q A, l)),
   )
 
   module _ (E : lf between a ≡ (ring_part ground p before).left) where
-    pub rest_leaves : Leaves a → (lf between a ≡ (rest_of ground p before).left) × Kept (cells_of s) b u rows f w o b₁ u₁ rows₁ f₁ w₁ o₁ a
+    pub rest_leaves : (r : Answer) → a ≡ r → Leaves r → (lf between r ≡ (rest_of ground p before).left) × Kept (cells_of s) b u rows f w o b₁ u₁ rows₁ f₁ w₁ o₁ r
     unfolding rest_of
-    rest_leaves k = (then_left (helix_part ground) (ring_part ground p before) between a E k, K)
+    rest_leaves r A k = subst (λ (x : Answer). (lf between x ≡ (rest_of ground p before).left) × Kept (cells_of s) b u rows f w o b₁ u₁ rows₁ f₁ w₁ o₁ x) A (then_left (helix_part ground) (ring_part ground p before) between a E (subst Leaves (sym A) k), K)
 
-    module _ (q : Progress) (A : a ≡ Next q) where
+    module _ (q : Progress) (A : a ≡ Ok (Next q)) where
       pub rest_asks : p.given ≤ 900000 → Asks q
       rest_asks l = asks q A (subst (Gives 900000) (sym (ap (λ (x : Left). x.answer) E) ∙ A) (ring_part_gives ground p before 900000 l))
 
-      pub rest_goes_on : (b₂ u₂ : List ℕ) (f₂ w₂ o₂ : List Float) (rows₂ : List ℕ) (r : Step) → lf (slices_in (cells_of s) b₂ u₂ f₂ rows₂ o₂) r ≡ (helix_part ground₁ q between).left
+      pub rest_goes_on : (b₂ u₂ : List ℕ) (f₂ w₂ o₂ : List Float) (rows₂ : List ℕ) (r : Answer) → lf (slices_in (cells_of s) b₂ u₂ f₂ rows₂ o₂) r ≡ (helix_part ground₁ q between).left
           → Kept (cells_of s) b₁ u₁ rows₁ f₁ w₁ o₁ b₂ u₂ rows₂ f₂ w₂ o₂ r
           → (lf (slices_in (cells_of s) b₂ u₂ f₂ rows₂ o₂) r ≡ (rest_of ground p before).left) × Kept (cells_of s) b u rows f w o b₂ u₂ rows₂ f₂ w₂ o₂ r
       unfolding rest_of
@@ -505,15 +511,15 @@ module _ (s : Setup) (vs : List Float) (lens : List ℕ) (pref : Float) (p : Pro
       )
 
   module _ (E : lf between a ≡ (pieces_part ground p before).left) where
-    pub round_leaves : Leaves a → (lf between a ≡ (round_of ground p before).left) × Kept (cells_of s) b u rows f w o b₁ u₁ rows₁ f₁ w₁ o₁ a
+    pub round_leaves : (r : Answer) → a ≡ r → Leaves r → (lf between r ≡ (round_of ground p before).left) × Kept (cells_of s) b u rows f w o b₁ u₁ rows₁ f₁ w₁ o₁ r
     unfolding round_of
-    round_leaves k = (then_left (rest_of ground) (pieces_part ground p before) between a E k, K)
+    round_leaves r A k = subst (λ (x : Answer). (lf between x ≡ (round_of ground p before).left) × Kept (cells_of s) b u rows f w o b₁ u₁ rows₁ f₁ w₁ o₁ x) A (then_left (rest_of ground) (pieces_part ground p before) between a E (subst Leaves (sym A) k), K)
 
-    module _ (q : Progress) (A : a ≡ Next q) where
+    module _ (q : Progress) (A : a ≡ Ok (Next q)) where
       pub round_asks : p.given ≤ 900000 → Asks q
       round_asks l = asks q A (subst (Gives 900000) (sym (ap (λ (x : Left). x.answer) E) ∙ A) (pieces_part_gives ground p before 900000 l))
 
-      pub round_goes_on : (b₂ u₂ : List ℕ) (f₂ w₂ o₂ : List Float) (rows₂ : List ℕ) (r : Step) → lf (slices_in (cells_of s) b₂ u₂ f₂ rows₂ o₂) r ≡ (rest_of ground₁ q between).left
+      pub round_goes_on : (b₂ u₂ : List ℕ) (f₂ w₂ o₂ : List Float) (rows₂ : List ℕ) (r : Answer) → lf (slices_in (cells_of s) b₂ u₂ f₂ rows₂ o₂) r ≡ (rest_of ground₁ q between).left
           → Kept (cells_of s) b₁ u₁ rows₁ f₁ w₁ o₁ b₂ u₂ rows₂ f₂ w₂ o₂ r
           → (lf (slices_in (cells_of s) b₂ u₂ f₂ rows₂ o₂) r ≡ (round_of ground p before).left) × Kept (cells_of s) b u rows f w o b₂ u₂ rows₂ f₂ w₂ o₂ r
       unfolding round_of

@@ -18,18 +18,17 @@ use Rattle.cutting.specs.declared.piece.State.{State as Plan}
 use Rattle.cutting.proofs.CutTold.{Planned, Agrees}
 use Rattle.tracing.specs.Round.{curves_of, work_of}
 use Rattle.tracing.specs.Ring.{ring_of}
-use Rattle.rounds.specs.declared.round.Cuts.{Cuts}
-use Rattle.rounds.specs.declared.round.Cuts.TheVariants.{After, Refused as Stopped}
+use Rattle.std.specs.Prelude.{Some, None}
+use Rattle.std.specs.Prelude.{Ok, Err}
+use Rattle.rounds.specs.Round.{Cuts}
 use Rattle.rounds.proofs.RoundsTold.{AnswersAll, RoundTold, pieces-told, ring_told}
 use Rattle.helix.specs.Search.{entry_of}
-use Rattle.helix.specs.declared.enter.Entered.{Entered}
-use Rattle.helix.specs.declared.enter.Entered.TheVariants.{Bored, NoRoom, Refused as Barred}
+use Rattle.helix.specs.Enter.{Entered}
 use Rattle.helix.proofs.HelixTold.{Answers, HelixTold, helix-told}
-use Rattle.plan.specs.Parts.{Ground, Slices, WithEvents, after_pieces, after_ring, after_helix, field_now, pieces_cut, pieces_part, ring_cut, ring_part, helix_entered, helix_part, onward, rest_of, round_of}
+use Rattle.plan.specs.Parts.{Ground, Slices, Answer, WithEvents, pieces_step, after_pieces, ring_step, after_ring, helix_step, after_helix, field_now, pieces_cut, pieces_part, ring_cut, ring_part, helix_entered, helix_part, onward, rest_of, round_of}
 use Rattle.plan.specs.Job.{job_in}
 use Rattle.plan.specs.declared.parts.Progress.{Progress}
-use Rattle.plan.specs.declared.parts.Step.{Step}
-use Rattle.plan.specs.declared.parts.Step.TheVariants.{Next, Again, Done, Refused}
+use Rattle.plan.specs.declared.parts.Step.TheVariants.{Next, Again, Done}
 
 -- ---- the claim
 
@@ -45,11 +44,11 @@ pub record PlanTold (j : Job) (es : List Event) (h : Slices) (p : Progress) : Ty
   pub given : events_of 5 es ≡ p.given
 
 -- a refusal ends the plan: what is listed is told till then
-abbrev pub StepTold : Job → List Event → Slices → Step → Type 0
-StepTold j es h (Next p) = PlanTold j es h p
-StepTold j es h (Again p) = PlanTold j es h p
-StepTold j es h (Done p) = PlanTold j es h p
-StepTold j es h (Refused n) = PlannedIn j es h
+abbrev pub StepTold : Job → List Event → Slices → Answer → Type 0
+StepTold j es h (Ok (Next p)) = PlanTold j es h p
+StepTold j es h (Ok (Again p)) = PlanTold j es h p
+StepTold j es h (Ok (Done p)) = PlanTold j es h p
+StepTold j es h (Err e) = PlannedIn j es h
 
 -- the slices k are as long as h
 pub record AsLong (h k : Slices) : Type 0 where
@@ -80,40 +79,40 @@ as_long_then h k l a b = record {
 
 module _ (j : Job) (es : List Event) (h : Slices) (P : PlannedIn j es h) (p : Progress) where
   after-pieces-told : events_of 5 es ≡ p.given → (a : Cuts) → AnswersAll (after j es) a → StepTold j es h (after_pieces p a)
-  unfolding after_pieces
-  after-pieces-told n (After t true) x = record { planned = P; agrees = x; given = n }
-  after-pieces-told n (After t false) x = record { planned = P; agrees = x; given = n }
-  after-pieces-told n (Stopped k) x = P
+  unfolding after_pieces pieces_step
+  after-pieces-told n (Ok (t, true)) x = record { planned = P; agrees = x; given = n }
+  after-pieces-told n (Ok (t, false)) x = record { planned = P; agrees = x; given = n }
+  after-pieces-told n (Err f) x = P
 
   after_ring-told : events_of 5 es ≡ p.given → (a : Cuts) → AnswersAll (after j es) a → StepTold j es h (after_ring p a)
-  unfolding after_ring
-  after_ring-told n (After t true) x = record { planned = P; agrees = x; given = n }
-  after_ring-told n (After t false) x = record { planned = P; agrees = x; given = n }
-  after_ring-told n (Stopped k) x = P
+  unfolding after_ring ring_step
+  after_ring-told n (Ok (t, true)) x = record { planned = P; agrees = x; given = n }
+  after_ring-told n (Ok (t, false)) x = record { planned = P; agrees = x; given = n }
+  after_ring-told n (Err f) x = P
 
   -- those given up on the way to an entry are counted
   after-helix-told : (before : ℕ) → before ≡ p.given → (a : Entered) → Answers (after j es) p.state before (events_of 5 es) a → StepTold j es h (after_helix p a)
-  unfolding after_helix
-  after-helix-told before n (Bored t k) x = record { planned = P; agrees = x.0; given = x.1 ∙ ap (λ (i : ℕ). i + k) n }
-  after-helix-told before n (NoRoom k) x = record { planned = P; agrees = x.0; given = x.1 ∙ ap (λ (i : ℕ). i + k) n }
-  after-helix-told before n (Barred k) x = P
+  unfolding after_helix helix_step
+  after-helix-told before n (Ok (Some t, k)) x = record { planned = P; agrees = x.0; given = x.1 ∙ ap (λ (i : ℕ). i + k) n }
+  after-helix-told before n (Ok (None, k)) x = record { planned = P; agrees = x.0; given = x.1 ∙ ap (λ (i : ℕ). i + k) n }
+  after-helix-told before n (Err f) x = P
 
 -- ---- one part after another
 
 -- what every part that keeps the claim does behind one that kept it
 module _ (j : Job) (part : Progress → Slices → WithEvents) (keeps : (es : List Event) (h : Slices) (p : Progress) → PlanTold j es h p → PartTold j es h (part p h)) where
-  onward-told : (es : List Event) (h : Slices) (fs : List Event) (k : Slices) (a : Step) → StepTold j (es ++ fs) k a → AsLong h k → PartTold j es h (onward part k a fs)
+  onward-told : (es : List Event) (h : Slices) (fs : List Event) (k : Slices) (a : Answer) → StepTold j (es ++ fs) k a → AsLong h k → PartTold j es h (onward part k a fs)
   unfolding onward
-  onward-told es h fs k (Next p) x l =
+  onward-told es h fs k (Ok (Next p)) x l =
       let q : WithEvents = part p k in
       let y : PartTold j (es ++ fs) k q = keeps (es ++ fs) k p x in
       record {
         told = subst (λ (z : List Event). StepTold j z q.left.slices q.left.answer) (append_assoc es fs q.events) y.told;
         long = as_long_then h k q.left.slices l y.long;
       }
-  onward-told es h fs k (Again p) x l = record { told = x; long = l }
-  onward-told es h fs k (Done p) x l = record { told = x; long = l }
-  onward-told es h fs k (Refused n) x l = record { told = x; long = l }
+  onward-told es h fs k (Ok (Again p)) x l = record { told = x; long = l }
+  onward-told es h fs k (Ok (Done p)) x l = record { told = x; long = l }
+  onward-told es h fs k (Err e) x l = record { told = x; long = l }
 
 -- ---- the parts
 

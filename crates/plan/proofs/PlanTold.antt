@@ -20,21 +20,19 @@ use Rattle.events.specs.Told.{how_many, events_of, Demand3, Report, Counted, Fin
 use Rattle.events.proofs.Demand.{demand3}
 use Rattle.cutting.proofs.WayLegal.{position_of}
 use Rattle.cutting.proofs.CutTold.{Planned, planned_begin, planned_finished}
-use Rattle.plan.specs.Parts.{Ground, Slices, WithEvents, round_of}
-use Rattle.plan.specs.Rounds.{Turn, tn, End, most_work, most_rounds, after_round, turn_of, end_of, first_progress, rounds_from, plan_of}
+use Rattle.plan.specs.Parts.{Ground, Slices, Answer, WithEvents, round_of}
+use Rattle.plan.specs.Rounds.{Ended, Turn, tn, End, most_work, most_rounds, after_round, turn_of, end_of, first_progress, rounds_from, plan_of}
 use Rattle.plan.specs.Job.{job_in}
 use Rattle.plan.specs.declared.parts.Progress.{Progress}
-use Rattle.plan.specs.declared.parts.Step.{Step}
-use Rattle.plan.specs.declared.parts.Step.TheVariants.{Next, Again, Done, Refused}
-use Rattle.plan.specs.declared.turns.Ended.{Ended}
-use Rattle.plan.specs.declared.turns.Ended.TheVariants.{Finished, Refused as Stopped}
+use Rattle.plan.specs.declared.parts.Step.TheVariants.{Next, Again, Done}
+use Rattle.std.specs.Prelude.{Ok, Err}
 use Rattle.plan.proofs.PartsTold.{PlannedIn, PlanTold, StepTold, AsLong, PartTold, as_long_same, as_long_then, round-told}
 
 -- ---- the claim
 
 abbrev pub EndedTold : Job → List Event → Slices → Ended → Type 0
-EndedTold j es h (Finished p spent) = PlanTold j es h p
-EndedTold j es h (Stopped n) = PlannedIn j es h
+EndedTold j es h (Ok (p, spent)) = PlanTold j es h p
+EndedTold j es h (Err f) = PlannedIn j es h
 
 -- e came of the slices h
 pub record EndTold (j : Job) (h : Slices) (e : End) : Type 0 where
@@ -44,12 +42,12 @@ pub record EndTold (j : Job) (h : Slices) (e : End) : Type 0 where
 -- ---- round after round
 
 -- however it goes on
-after-round-told : (j : Job) (h k : Slices) (a : Step) (es : List Event) → StepTold j es k a → AsLong h k → EndTold j h (end_of (after_round k a es))
+after-round-told : (j : Job) (h k : Slices) (a : Answer) (es : List Event) → StepTold j es k a → AsLong h k → EndTold j h (end_of (after_round k a es))
 unfolding after_round end_of
-after-round-told j h k (Next p) es x l = record { told = x; long = l }
-after-round-told j h k (Again p) es x l = record { told = x; long = l }
-after-round-told j h k (Done p) es x l = record { told = x; long = l }
-after-round-told j h k (Refused n) es x l = record { told = x; long = l }
+after-round-told j h k (Ok (Next p)) es x l = record { told = x; long = l }
+after-round-told j h k (Ok (Again p)) es x l = record { told = x; long = l }
+after-round-told j h k (Ok (Done p)) es x l = record { told = x; long = l }
+after-round-told j h k (Err f) es x l = record { told = x; long = l }
 
 module _ (g : Ground) (start : List ℕ) (limit : Float) (S : Sides g.setup.grid) (M : Measured g.setup) (F : Fit (job_in g start limit)) where
   abbrev job : Job
@@ -115,8 +113,8 @@ pub record PlanMade (j : Job) (es : List Event) (h : Slices) (p : Progress) : Ty
 
 module _ (j : Job) (F : Fit j) (es : List Event) (h : Slices) where
   ended-claim : (a : Ended) → EndedTold j es h a → Demand3 j es
-  ended-claim (Finished p spent) x = demand3 j F es x.planned.legal
-  ended-claim (Stopped n) x = demand3 j F es x.legal
+  ended-claim (Ok (p, spent)) x = demand3 j F es x.planned.legal
+  ended-claim (Err f) x = demand3 j F es x.legal
 
   plan_made : (p : Progress) → PlanTold j es h p → PlanMade j es h p
   plan_made p x = record {
@@ -146,7 +144,7 @@ module _ (g : Ground) (start : List ℕ) (limit : Float) (S : Sides g.setup.grid
   ends : EndTold the_job h end
   ends = plan_told g start limit S M F h standing none-gone empty
 
-  pub plan_finished : (p : Progress) (spent : Bool) → end.left.answer ≡ Finished p spent → PlanMade the_job end.events end.left.slices p
+  pub plan_finished : (p : Progress) (spent : Bool) → end.left.answer ≡ Ok (p, spent) → PlanMade the_job end.events end.left.slices p
   plan_finished p spent e = plan_made the_job F end.events end.left.slices p (subst (EndedTold the_job end.events end.left.slices) e ends.told)
 
   -- however it ends, by a refusal too

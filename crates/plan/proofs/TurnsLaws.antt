@@ -8,7 +8,7 @@ use lib.ListN.{length}
 use lib.Dec.{ltb}
 use lib.Ieee.{Float}
 use borrow.Author.Tests.{lt-ltb, le-ltb}
-use Rattle.loops.specs.Loop.{loop, Run, on, out, turn}
+use Rattle.loops.specs.Loop.{Run, on, out, turn}
 use Rattle.loops.proofs.LoopLaws.{Going, going_none, going_end, going_out, going_on}
 use Rattle.setup.specs.Place.{cells_of}
 use Rattle.setup.specs.declared.Setup.{Setup}
@@ -16,13 +16,12 @@ use Rattle.events.specs.Events.{Event}
 use Rattle.cutting.specs.Piece.{Listed}
 use Rattle.workspace.specs.Standing.{Standing}
 use Rattle.workspace.proofs.StandingLaws.{walls-same, cells_same}
-use Rattle.plan.specs.Parts.{Ground, Slices, Left, lf, WithEvents, round_of, slices_in, ground_in, ListedAfter, Kept}
-use Rattle.plan.specs.Rounds.{most_work, Turn, tn, End, el, ended, after_round, turn_of, end_of, first_progress, rounds_from, plan_of, ListedEnd, EndKept}
+use Rattle.plan.specs.Parts.{Ground, Slices, Answer, Left, lf, WithEvents, round_of, slices_in, ground_in, ListedAfter, Kept}
+use Rattle.plan.specs.Rounds.{Ended, most_work, Turn, tn, End, el, ended, after_round, turn_of, end_of, first_progress, rounds_from, plan_of, ListedEnd, EndKept}
 use Rattle.plan.specs.declared.parts.Progress.{Progress}
-use Rattle.plan.specs.declared.parts.Step.{Step}
-use Rattle.plan.specs.declared.parts.Step.TheVariants.{Next, Again, Done, Refused}
-use Rattle.plan.specs.declared.turns.Ended.{Ended}
-use Rattle.plan.specs.declared.turns.Ended.TheVariants.{Finished, Refused as Stopped}
+use Rattle.plan.specs.declared.parts.Step.TheVariants.{Next, Again, Done}
+use Rattle.std.specs.Prelude.{Ok, Err}
+use Rattle.cutting.specs.declared.listing.Full.{Full}
 use Rattle.plan.proofs.PartsLaws.{Gives, round_gives, kept-standing, kept-singles, kept_ground, kept_more}
 
 module _ (s : Setup) (vs : List Float) (lens : List ℕ) (pref : Float) (b₀ u₀ : List ℕ) (f₀ w₀ o₀ : List Float) (rows₀ : List ℕ) where
@@ -39,7 +38,7 @@ module _ (s : Setup) (vs : List Float) (lens : List ℕ) (pref : Float) (b₀ u�
   pub record Planning (b u : List ℕ) (f w o : List Float) (rows : List ℕ) (p : Progress) (k : ℕ) : Type 0 where
     pub events : List Event
     pub going : Going (turn (turn_of ground)) 0 10000 begin (on (tn p (slices_in (cells_of s) b u f rows o) events)) k
-    pub kept : Kept (cells_of s) b₀ u₀ rows₀ f₀ w₀ o₀ b u rows f w o (Again p)
+    pub kept : Kept (cells_of s) b₀ u₀ rows₀ f₀ w₀ o₀ b u rows f w o (Ok (Again p))
     pub given : p.given ≤ 64 * k
 
   -- at the end
@@ -60,13 +59,13 @@ module _ (s : Setup) (vs : List Float) (lens : List ℕ) (pref : Float) (b₀ u�
       abbrev here : Slices
       here = slices_in (cells_of s) b u f rows o
 
-      abbrev K : Kept (cells_of s) b₀ u₀ rows₀ f₀ w₀ o₀ b u rows f w o (Again p)
+      abbrev K : Kept (cells_of s) b₀ u₀ rows₀ f₀ w₀ o₀ b u rows f w o (Ok (Again p))
       K = P.kept
 
       pub round_asked : 2 * cells_of s ≤ length f₀ → k < 10000 → Standing s vs lens b u w × ((2 * cells_of s ≤ length f) × (Listed rows o p.state 0 × (p.given ≤ 900000)))
       round_asked l h = (
-        kept-standing s vs lens pref b₀ u₀ f₀ w₀ o₀ rows₀ H b u f w o rows (Again p) K,
-        (kept-singles s vs lens pref b₀ u₀ f₀ w₀ o₀ rows₀ H b u f w o rows (Again p) K l, (K.listed, omega (arith, h, P.given))),
+        kept-standing s vs lens pref b₀ u₀ f₀ w₀ o₀ rows₀ H b u f w o rows (Ok (Again p)) K,
+        (kept-singles s vs lens pref b₀ u₀ f₀ w₀ o₀ rows₀ H b u f w o rows (Ok (Again p)) K l, (K.listed, omega (arith, h, P.given))),
       )
 
       -- the turn ends the loop
@@ -86,15 +85,15 @@ module _ (s : Setup) (vs : List Float) (lens : List ℕ) (pref : Float) (b₀ u�
       }
 
       -- all rounds are done
-      pub plan_ends : 10000 ≤ k → Ends b u f w o rows (Finished p false)
+      pub plan_ends : 10000 ≤ k → Ends b u f w o rows (Ok (p, false))
       unfolding plan_of rounds_from end_of
       plan_ends h = (
         ap (λ (q : Run Turn End). (end_of q).left) (going_end (turn (turn_of ground)) 0 10000 begin (on (tn p here P.events)) k P.going h),
-        end_kept (Finished p false) K.listed,
+        end_kept (Ok (p, false)) K.listed,
       )
 
       abbrev spent_end : End
-      spent_end = ended here (Finished p true) P.events
+      spent_end = ended here (Ok (p, true)) P.events
 
       abbrev result : WithEvents
       result = round_of ground p here
@@ -107,11 +106,11 @@ module _ (s : Setup) (vs : List Float) (lens : List ℕ) (pref : Float) (b₀ u�
       turn_by x e = ap (λ (z : Bool). cond z (out spent_end) went_on) e
 
       -- the budget is spent
-      pub plan_spent : k < 10000 → most_work < p.state.work → Ends b u f w o rows (Finished p true)
-      plan_spent h l = (plan_out h spent_end (turn_by true (lt-ltb most_work p.state.work l)), end_kept (Finished p true) K.listed)
+      pub plan_spent : k < 10000 → most_work < p.state.work → Ends b u f w o rows (Ok (p, true))
+      plan_spent h l = (plan_out h spent_end (turn_by true (lt-ltb most_work p.state.work l)), end_kept (Ok (p, true)) K.listed)
 
       -- a round was done
-      module _ (h : k < 10000) (l : p.state.work ≤ most_work) (b₂ u₂ : List ℕ) (f₂ w₂ o₂ : List Float) (rows₂ : List ℕ) (a : Step)
+      module _ (h : k < 10000) (l : p.state.work ≤ most_work) (b₂ u₂ : List ℕ) (f₂ w₂ o₂ : List Float) (rows₂ : List ℕ) (a : Answer)
           (E : lf (slices_in (cells_of s) b₂ u₂ f₂ rows₂ o₂) a ≡ (round_of (ground_in s vs lens pref b w) p here).left) (M : Kept (cells_of s) b u rows f w o b₂ u₂ rows₂ f₂ w₂ o₂ a) where
         abbrev there : Slices
         there = slices_in (cells_of s) b₂ u₂ f₂ rows₂ o₂
@@ -120,19 +119,19 @@ module _ (s : Setup) (vs : List Float) (lens : List ℕ) (pref : Float) (b₀ u�
         later = P.events ++ result.events
 
         round_is : lf there a ≡ result.left
-        round_is = E ∙ ap (λ (x : Ground). (round_of x p here).left) (kept_ground s vs lens pref b₀ u₀ f₀ w₀ o₀ rows₀ H b u f w o rows (Again p) K)
+        round_is = E ∙ ap (λ (x : Ground). (round_of x p here).left) (kept_ground s vs lens pref b₀ u₀ f₀ w₀ o₀ rows₀ H b u f w o rows (Ok (Again p)) K)
 
         turn_is : turn_of ground k (tn p here P.events) ≡ after_round there a later
         turn_is = turn_by false (le-ltb most_work p.state.work l) ∙ (λ i. after_round (sym round_is i).slices (sym round_is i).answer later)
 
         all-kept : Kept (cells_of s) b₀ u₀ rows₀ f₀ w₀ o₀ b₂ u₂ rows₂ f₂ w₂ o₂ a
-        all-kept = kept_more s vs lens pref b₀ u₀ f₀ w₀ o₀ rows₀ H b u f w o rows (Again p) K b₂ u₂ f₂ w₂ o₂ rows₂ a M
+        all-kept = kept_more s vs lens pref b₀ u₀ f₀ w₀ o₀ rows₀ H b u f w o rows (Ok (Again p)) K b₂ u₂ f₂ w₂ o₂ rows₂ a M
 
-        pub planning_more : (q : Progress) → a ≡ Again q → Planning b₂ u₂ f₂ w₂ o₂ rows₂ q (k + 1)
+        pub planning_more : (q : Progress) → a ≡ Ok (Again q) → Planning b₂ u₂ f₂ w₂ o₂ rows₂ q (k + 1)
         unfolding after_round
         planning_more q A = record {
           events = later;
-          going = going_on (turn_of ground) 0 10000 begin (tn p here P.events) (tn q there later) k P.going h (sym (turn_is ∙ ap (λ (x : Step). after_round there x later) A));
+          going = going_on (turn_of ground) 0 10000 begin (tn p here P.events) (tn q there later) k P.going h (sym (turn_is ∙ ap (λ (x : Answer). after_round there x later) A));
           kept = subst (Kept (cells_of s) b₀ u₀ rows₀ f₀ w₀ o₀ b₂ u₂ rows₂ f₂ w₂ o₂) A all-kept;
           given = let z : q.given ≤ 64 * k + 64 = subst (Gives (64 * k + 64)) (sym (ap (λ (x : Left). x.answer) round_is) ∙ A) (round_gives ground p here (64 * k) P.given) in omega (arith, z);
         }
@@ -148,20 +147,20 @@ module _ (s : Setup) (vs : List Float) (lens : List ℕ) (pref : Float) (b₀ u�
           listed = L;
         }
 
-        pub plan_next : (q : Progress) → a ≡ Next q → Ends b₂ u₂ f₂ w₂ o₂ rows₂ (Finished q false)
+        pub plan_next : (q : Progress) → a ≡ Ok (Next q) → Ends b₂ u₂ f₂ w₂ o₂ rows₂ (Ok (q, false))
         unfolding after_round
         plan_next q A = (
-          plan_out h (ended there (Finished q false) later) (turn_is ∙ ap (λ (x : Step). after_round there x later) A),
-          ended-kept (Finished q false) (subst (ListedAfter rows₂ o₂) A M.listed),
+          plan_out h (ended there (Ok (q, false)) later) (turn_is ∙ ap (λ (x : Answer). after_round there x later) A),
+          ended-kept (Ok (q, false)) (subst (ListedAfter rows₂ o₂) A M.listed),
         )
 
-        pub plan_done : (q : Progress) → a ≡ Done q → Ends b₂ u₂ f₂ w₂ o₂ rows₂ (Finished q false)
+        pub plan_done : (q : Progress) → a ≡ Ok (Done q) → Ends b₂ u₂ f₂ w₂ o₂ rows₂ (Ok (q, false))
         unfolding after_round
         plan_done q A = (
-          plan_out h (ended there (Finished q false) later) (turn_is ∙ ap (λ (x : Step). after_round there x later) A),
-          ended-kept (Finished q false) (subst (ListedAfter rows₂ o₂) A M.listed),
+          plan_out h (ended there (Ok (q, false)) later) (turn_is ∙ ap (λ (x : Answer). after_round there x later) A),
+          ended-kept (Ok (q, false)) (subst (ListedAfter rows₂ o₂) A M.listed),
         )
 
-        pub plan_refused : (n : ℕ) → a ≡ Refused n → Ends b₂ u₂ f₂ w₂ o₂ rows₂ (Stopped n)
+        pub plan_refused : (f : Full) → a ≡ Err f → Ends b₂ u₂ f₂ w₂ o₂ rows₂ (Err f)
         unfolding after_round
-        plan_refused n A = (plan_out h (ended there (Stopped n) later) (turn_is ∙ ap (λ (x : Step). after_round there x later) A), ended-kept (Stopped n) tt)
+        plan_refused f A = (plan_out h (ended there (Err f) later) (turn_is ∙ ap (λ (x : Answer). after_round there x later) A), ended-kept (Err f) tt)

@@ -1,26 +1,23 @@
 -- A round of `plan` of adaptive.rs in three parts: the curves of the field cut, the ring cut once per clean-up, an entry by a helix. Definitions only.
-use Rattle.std.specs.Prelude.{ℕ, ◌+◌, ◌≡◌, Bool, true, false, cond, List, [], ◌++◌, length, replicate, Float}
+use Rattle.std.specs.Prelude.{ℕ, ◌+◌, ◌≡◌, Bool, true, false, cond, List, [], ◌++◌, length, replicate, Option, Some, None, Result, Ok, Err, Float}
 use Rattle.setup.specs.Layout.{run, map_in, allowed_in, dirty_in, log_in}
 use Rattle.setup.specs.Place.{cells_of}
 use Rattle.setup.specs.declared.Setup.{Setup}
 use Rattle.links.specs.Path.{wall_in}
 use Rattle.events.specs.Events.{Event}
 use Rattle.cutting.specs.Piece.{spending, Listed}
+use Rattle.cutting.specs.declared.listing.Full.{Full}
 use Rattle.cutting.specs.declared.piece.State.{State}
 use Rattle.workspace.specs.Standing.{reach_in, abandoned_in, CellsKept, WallsKept}
 use Rattle.tracing.specs.Round.{sensed_of, curves_of, work_of}
 use Rattle.tracing.specs.Ring.{ring_of}
 use Rattle.field.specs.Field.{Sensed}
-use Rattle.rounds.specs.Round.{CutsWithEvents, cut_pieces_of, cut_ring_of}
-use Rattle.rounds.specs.declared.round.Cuts.{Cuts}
-use Rattle.rounds.specs.declared.round.Cuts.TheVariants.{After, Refused as Stopped}
-use Rattle.helix.specs.Enter.{helix_of}
+use Rattle.rounds.specs.Round.{Cuts, CutsWithEvents, cut_pieces_of, cut_ring_of}
+use Rattle.helix.specs.Enter.{Entered, helix_of}
 use Rattle.helix.specs.Enter.{WithEvents as HelixDone}
-use Rattle.helix.specs.declared.enter.Entered.{Entered}
-use Rattle.helix.specs.declared.enter.Entered.TheVariants.{Bored, NoRoom, Refused as Barred}
 use Rattle.plan.specs.declared.parts.Progress.{Progress}
 use Rattle.plan.specs.declared.parts.Step.{Step}
-use Rattle.plan.specs.declared.parts.Step.TheVariants.{Next, Again, Done, Refused}
+use Rattle.plan.specs.declared.parts.Step.TheVariants.{Next, Again, Done}
 
 -- ---- what a plan is about
 
@@ -52,12 +49,16 @@ slices m d g l f r o = record { map = m; dirty = d; gone = g; log = l; field = f
 abbrev pub progress : State → Bool → ℕ → Bool → Progress
 progress t all given cleanup = record { state = t; all = all; given = given; cleanup = cleanup }
 
+-- how a part leaves the round, or what is full
+abbrev pub Answer : Type 0
+Answer = Result Step Full
+
 -- what a part leaves, with its answer
 pub record Left : Type 0 where
   pub slices : Slices
-  pub answer : Step
+  pub answer : Answer
 
-abbrev pub lf : Slices → Step → Left
+abbrev pub lf : Slices → Answer → Left
 lf h a = record { slices = h; answer = a }
 
 -- the same with the events that led there
@@ -65,31 +66,39 @@ pub record WithEvents : Type 0 where
   pub left : Left
   pub events : List Event
 
-abbrev pub with_events : Slices → Step → List Event → WithEvents
+abbrev pub with_events : Slices → Answer → List Event → WithEvents
 with_events h a es = record { left = lf h a; events = es }
 
 -- ---- the parts
 
 -- a pass was kept: the next round, and the ring is due again; none: the round goes on
-unfoldable pub after_pieces : Progress → Cuts → Step
-after_pieces p (After t any) = cond any (Again (progress t false p.given false)) (Next (progress t false p.given p.cleanup))
-after_pieces p (Stopped n) = Refused n
+unfoldable pub pieces_step : Progress → State → Bool → Step
+pieces_step p t any = cond any (Again (progress t false p.given false)) (Next (progress t false p.given p.cleanup))
 
-unfoldable pub after_ring : Progress → Cuts → Step
-after_ring p (After t any) = cond any (Again (progress t p.all p.given true)) (Next (progress t p.all p.given true))
-after_ring p (Stopped n) = Refused n
+unfoldable pub after_pieces : Progress → Cuts → Answer
+after_pieces p (Ok (t, any)) = Ok (pieces_step p t any)
+after_pieces p (Err f) = Err f
+
+unfoldable pub ring_step : Progress → State → Bool → Step
+ring_step p t any = cond any (Again (progress t p.all p.given true)) (Next (progress t p.all p.given true))
+
+unfoldable pub after_ring : Progress → Cuts → Answer
+after_ring p (Ok (t, any)) = Ok (ring_step p t any)
+after_ring p (Err f) = Err f
 
 -- how many places were given up on the way to an answer
 unfoldable pub places_of : Entered → ℕ
-places_of (Bored t n) = n
-places_of (NoRoom n) = n
-places_of (Barred n) = 0
+places_of (Ok (t, n)) = n
+places_of (Err f) = 0
 
 -- after an entry the whole field is due, and the ring again; where there is none the plan is done
-unfoldable pub after_helix : Progress → Entered → Step
-after_helix p (Bored t n) = Again (progress t true (p.given + n) false)
-after_helix p (NoRoom n) = Done (progress p.state p.all (p.given + n) p.cleanup)
-after_helix p (Barred n) = Refused n
+unfoldable pub helix_step : Progress → Option State → ℕ → Step
+helix_step p (Some t) n = Again (progress t true (p.given + n) false)
+helix_step p None n = Done (progress p.state p.all (p.given + n) p.cleanup)
+
+unfoldable pub after_helix : Progress → Entered → Answer
+after_helix p (Ok (t, n)) = Ok (helix_step p t n)
+after_helix p (Err f) = Err f
 
 module _ (g : Ground) (p : Progress) (h : Slices) where
   abbrev s : Setup
@@ -117,7 +126,7 @@ module _ (g : Ground) (p : Progress) (h : Slices) where
   ring_part =
       let c = ring_cut in
       let l = c.left in
-      cond p.cleanup (with_events h (Next p) []) (with_events (slices l.map l.dirty h.gone l.log h.field l.rows l.out) (after_ring p l.answer) c.events)
+      cond p.cleanup (with_events h (Ok (Next p)) []) (with_events (slices l.map l.dirty h.gone l.log h.field l.rows l.out) (after_ring p l.answer) c.events)
 
   abbrev pub helix_entered : HelixDone
   helix_entered = helix_of s g.wall g.vs g.lens g.allowed g.reach g.pref p.state h.map h.gone h.rows h.out
@@ -132,11 +141,11 @@ module _ (g : Ground) (p : Progress) (h : Slices) where
 -- ---- a round
 
 -- the next part where the round goes on
-unfoldable pub onward : (Progress → Slices → WithEvents) → Slices → Step → List Event → WithEvents
-onward part h (Next p) es = let q = part p h in with_events q.left.slices q.left.answer (es ++ q.events)
-onward part h (Again p) es = with_events h (Again p) es
-onward part h (Done p) es = with_events h (Done p) es
-onward part h (Refused n) es = with_events h (Refused n) es
+unfoldable pub onward : (Progress → Slices → WithEvents) → Slices → Answer → List Event → WithEvents
+onward part h (Ok (Next p)) es = let q = part p h in with_events q.left.slices q.left.answer (es ++ q.events)
+onward part h (Ok (Again p)) es = with_events h (Ok (Again p)) es
+onward part h (Ok (Done p)) es = with_events h (Ok (Done p)) es
+onward part h (Err f) es = with_events h (Err f) es
 
 abbrev pub then_do : (Progress → Slices → WithEvents) → WithEvents → WithEvents
 then_do part q = onward part q.left.slices q.left.answer q.events
@@ -166,13 +175,13 @@ ground_in s vs lens pref b w = record {
 }
 
 -- what callers find again
-abbrev pub ListedAfter : List ℕ → List Float → Step → Type 0
-ListedAfter rows o (Next p) = Listed rows o p.state 0
-ListedAfter rows o (Again p) = Listed rows o p.state 0
-ListedAfter rows o (Done p) = Listed rows o p.state 0
-ListedAfter rows o (Refused n) = Unit {0}
+abbrev pub ListedAfter : List ℕ → List Float → Answer → Type 0
+ListedAfter rows o (Ok (Next p)) = Listed rows o p.state 0
+ListedAfter rows o (Ok (Again p)) = Listed rows o p.state 0
+ListedAfter rows o (Ok (Done p)) = Listed rows o p.state 0
+ListedAfter rows o (Err f) = Unit {0}
 
-pub record Kept (n : ℕ) (b u rows : List ℕ) (f w o : List Float) (b' u' rows' : List ℕ) (f' w' o' : List Float) (a : Step) : Type 0 where
+pub record Kept (n : ℕ) (b u rows : List ℕ) (f w o : List Float) (b' u' rows' : List ℕ) (f' w' o' : List Float) (a : Answer) : Type 0 where
   pub cells : CellsKept n b b'
   pub words_long : length u' ≡ length u
   pub singles-long : length f' ≡ length f

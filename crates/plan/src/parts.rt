@@ -3,11 +3,10 @@ ghost use Rattle.std.specs.Prelude.{◌≡◌, ◌+◌, ◌*◌, ◌≤◌, Floa
 ghost use Rattle.setup.specs.Place.{cells_of};
 ghost use Rattle.cutting.specs.Piece.{Listed};
 ghost use Rattle.workspace.specs.Standing.{Standing};
-ghost use Rattle.plan.specs.Parts.{lf, places_of, after_pieces, after_ring, after_helix, pieces_part, ring_part, helix_part, rest_of, round_of, slices_in, ground_in, Kept};
+ghost use Rattle.plan.specs.Parts.{lf, pieces_step, ring_step, helix_step, pieces_part, ring_part, helix_part, rest_of, round_of, slices_in, ground_in, Kept};
 
+use cutting::listing::Full;
 use cutting::piece::{State, spend};
-use helix::enter::Entered;
-use rounds::round::Cuts;
 use setup::Setup;
 
 // What planning holds by value besides: whether the whole field is to be worked out anew, how many places
@@ -20,87 +19,63 @@ pub struct Progress {
     pub cleanup: bool,
 }
 
-// How a part of a round leaves it: the round goes on, the next one begins, the plan is done, or document
-// 01's refusal.
+// How a part of a round leaves it: the round goes on, the next one begins, or the plan is done.
 #[derive(Clone, Copy)]
 pub enum Step {
     Next(Progress),
     Again(Progress),
     Done(Progress),
-    Refused(u32),
 }
 
-fn after_pieces(p: Progress, c: Cuts) -> Step
-    ensures { result ≡ after_pieces p c }
+// After the curves, `any` saying whether a pass was kept.
+fn after_pieces(p: Progress, state: State, any: bool) -> Step
+    ensures { result ≡ pieces_step p state any }
 {
-    let given = p.given;
-    let cleanup = p.cleanup;
-    match c {
-        Cuts::After(state, any) => {
-            if any {
-                return Step::Again(Progress {
-                    state,
-                    all: false,
-                    given,
-                    cleanup: false,
-                });
-            }
-            Step::Next(Progress {
-                state,
-                all: false,
-                given,
-                cleanup,
-            })
-        }
-        Cuts::Refused(n) => Step::Refused(n),
-    }
-}
-
-fn after_ring(p: Progress, c: Cuts) -> Step
-    ensures { result ≡ after_ring p c }
-{
-    let given = p.given;
-    let all = p.all;
-    match c {
-        Cuts::After(state, any) => {
-            let next = Progress {
-                state,
-                all,
-                given,
-                cleanup: true,
-            };
-            if any {
-                return Step::Again(next);
-            }
-            Step::Next(next)
-        }
-        Cuts::Refused(n) => Step::Refused(n),
-    }
-}
-
-fn after_helix(p: Progress, e: Entered) -> Step
-    requires { p.given + places_of e ≤ 1000000 }
-    ensures { result ≡ after_helix p e }
-{
-    let given = p.given;
-    match e {
-        Entered::Bored(state, n) => Step::Again(Progress {
+    if any {
+        return Step::Again(Progress {
             state,
-            all: true,
-            given: given + n,
+            all: false,
             cleanup: false,
-        }),
-        Entered::NoRoom(n) => {
-            let state = p.state;
-            Step::Done(Progress {
-                state,
-                all: p.all,
-                given: given + n,
-                cleanup: p.cleanup,
-            })
-        }
-        Entered::Refused(n) => Step::Refused(n),
+            ..p
+        });
     }
+    Step::Next(Progress {
+        state,
+        all: false,
+        ..p
+    })
+}
+
+// After the ring, likewise.
+fn after_ring(p: Progress, state: State, any: bool) -> Step
+    ensures { result ≡ ring_step p state any }
+{
+    let next = Progress {
+        state,
+        cleanup: true,
+        ..p
+    };
+    if any {
+        return Step::Again(next);
+    }
+    Step::Next(next)
+}
+
+// After n places of a helix were given up; `entered` is the state after an entry.
+fn after_helix(p: Progress, entered: Option<State>, n: usize) -> Step
+    requires { p.given + n ≤ 1000000 }
+    ensures { result ≡ helix_step p entered n }
+{
+    let given = p.given + n;
+    let Some(state) = entered else {
+        return Step::Done(Progress { given, ..p });
+    };
+    Step::Again(Progress {
+        state,
+        all: true,
+        given,
+        cleanup: false,
+    })
 }
 
 // The curves of the field, cut.
@@ -115,7 +90,7 @@ fn cut_pieces(
     w: &mut [f64],
     triples: &mut [f64],
     rows: &mut [u32],
-) -> Step
+) -> Result<Step, Full>
     requires standing { Standing s vs.now lens.now b.old u.old w.old }
     requires s_in_bounds { 2 * cells_of s ≤ length f.old }
     requires listed { Listed rows.old triples.old p.state 0 }
@@ -124,7 +99,7 @@ fn cut_pieces(
 {
     let t = p.state;
     let q = tracing::round::trace_round(s, p.all, b, u, f, w);
-    let c = rounds::round::cut_pieces(
+    let (state, any) = rounds::round::cut_pieces(
         s,
         spend(t, q.work),
         vs,
@@ -135,8 +110,8 @@ fn cut_pieces(
         triples,
         rows,
         q.pieces,
-    );
-    after_pieces(p, c)
+    )?;
+    Ok(after_pieces(p, state, any))
 }
 
 // The ring, cut once per clean-up.
@@ -151,7 +126,7 @@ fn cut_ring(
     w: &mut [f64],
     triples: &mut [f64],
     rows: &mut [u32],
-) -> Step
+) -> Result<Step, Full>
     requires standing { Standing s vs.now lens.now b.old u.old w.old }
     requires s_in_bounds { 2 * cells_of s ≤ length f.old }
     requires listed { Listed rows.old triples.old p.state 0 }
@@ -159,12 +134,12 @@ fn cut_ring(
     ensures kept { Kept (cells_of s) b.old u.old rows.old f.old w.old triples.old b.new u.new rows.new f.new w.new triples.new result }
 {
     if p.cleanup {
-        return Step::Next(p);
+        return Ok(Step::Next(p));
     }
     let t = p.state;
     let m = tracing::ring::trace_ring(s, vs, lens, b, u, f, w);
-    let c = rounds::round::cut_ring(s, t, vs, lens, b, u, w, triples, rows, m);
-    after_ring(p, c)
+    let (state, any) = rounds::round::cut_ring(s, t, vs, lens, b, u, w, triples, rows, m)?;
+    Ok(after_ring(p, state, any))
 }
 
 // An entry by a helix, where there is room for one.
@@ -180,7 +155,7 @@ fn enter(
     w: &[f64],
     triples: &mut [f64],
     rows: &mut [u32],
-) -> Step
+) -> Result<Step, Full>
     requires standing { Standing s vs.now lens.now b.old u.old w.now }
     requires s_in_bounds { 2 * cells_of s ≤ length f.now }
     requires listed { Listed rows.old triples.old p.state 0 }
@@ -189,8 +164,8 @@ fn enter(
     ensures kept { Kept (cells_of s) b.old u.old rows.old f.now w.now triples.old b.new u.new rows.new f.now w.now triples.new result }
 {
     let t = p.state;
-    let e = helix::enter::enter(s, t, vs, lens, pref, b, u, w, triples, rows);
-    after_helix(p, e)
+    let (entered, n) = helix::enter::enter(s, t, vs, lens, pref, b, u, w, triples, rows)?;
+    Ok(after_helix(p, entered, n))
 }
 
 // The ring, then the helix.
@@ -206,7 +181,7 @@ fn rest(
     w: &mut [f64],
     triples: &mut [f64],
     rows: &mut [u32],
-) -> Step
+) -> Result<Step, Full>
     requires standing { Standing s vs.now lens.now b.old u.old w.old }
     requires s_in_bounds { 2 * cells_of s ≤ length f.old }
     requires listed { Listed rows.old triples.old p.state 0 }
@@ -214,9 +189,9 @@ fn rest(
     ensures result_after { lf (slices_in (cells_of s) b.new u.new f.new rows.new triples.new) result ≡ (rest_of (ground_in s vs.now lens.now pref b.old w.old) p (slices_in (cells_of s) b.old u.old f.old rows.old triples.old)).left }
     ensures kept { Kept (cells_of s) b.old u.old rows.old f.old w.old triples.old b.new u.new rows.new f.new w.new triples.new result }
 {
-    let a = cut_ring(s, p, vs, lens, b, u, f, w, triples, rows);
+    let a = cut_ring(s, p, vs, lens, b, u, f, w, triples, rows)?;
     let Step::Next(q) = a else {
-        return a;
+        return Ok(a);
     };
     enter(s, q, vs, lens, pref, b, u, f, w, triples, rows)
 }
@@ -233,7 +208,7 @@ pub fn round(
     w: &mut [f64],
     triples: &mut [f64],
     rows: &mut [u32],
-) -> Step
+) -> Result<Step, Full>
     requires standing { Standing s vs.now lens.now b.old u.old w.old }
     requires s_in_bounds { 2 * cells_of s ≤ length f.old }
     requires listed { Listed rows.old triples.old p.state 0 }
@@ -241,9 +216,9 @@ pub fn round(
     ensures result_after { lf (slices_in (cells_of s) b.new u.new f.new rows.new triples.new) result ≡ (round_of (ground_in s vs.now lens.now pref b.old w.old) p (slices_in (cells_of s) b.old u.old f.old rows.old triples.old)).left }
     ensures kept { Kept (cells_of s) b.old u.old rows.old f.old w.old triples.old b.new u.new rows.new f.new w.new triples.new result }
 {
-    let a = cut_pieces(s, p, vs, lens, b, u, f, w, triples, rows);
+    let a = cut_pieces(s, p, vs, lens, b, u, f, w, triples, rows)?;
     let Step::Next(q) = a else {
-        return a; // a pass was cut, or it was refused
+        return Ok(a); // a pass was cut
     };
     rest(s, q, vs, lens, pref, b, u, f, w, triples, rows)
 }

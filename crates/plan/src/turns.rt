@@ -7,27 +7,20 @@ ghost use Rattle.plan.specs.Parts.{slices_in, ground_in};
 ghost use Rattle.plan.specs.Rounds.{el, first_progress, plan_of, EndKept};
 
 use super::parts::{Progress, Step, round};
+use cutting::listing::Full;
 use cutting::piece::State;
-use passes::start::Place;
 use setup::Setup;
 
 const MAX_ROUNDS: usize = 10000;
 
 const MAX_WORK: usize = 2000000000;
 
-// How a plan ends: what it came to, and whether its budget was spent; or document 01's refusal 16 or 17.
-#[derive(Clone, Copy)]
-pub enum Ended {
-    Finished(Progress, bool),
-    Refused(u32),
-}
-
 // The tool is nowhere, and nothing is listed.
 fn first() -> Progress
     ensures { result ≡ first_progress }
 {
     let state = State {
-        pos: Place::Nowhere,
+        pos: None,
         rows: 0,
         triples: 0,
         planned_max: 0.0,
@@ -41,6 +34,7 @@ fn first() -> Progress
     }
 }
 
+// What the plan came to, and whether its budget was spent.
 pub fn plan(
     s: Setup,
     vs: &[f64],
@@ -52,7 +46,7 @@ pub fn plan(
     w: &mut [f64],
     triples: &mut [f64],
     rows: &mut [u32],
-) -> Ended
+) -> Result<(Progress, bool), Full>
     requires standing { Standing s vs.now lens.now b.old u.old w.old }
     requires s_in_bounds { 2 * cells_of s ≤ length f.old }
     requires listed { Listed rows.old triples.old first_progress.state 0 }
@@ -62,23 +56,14 @@ pub fn plan(
     let mut p = first();
     for k in 0..MAX_ROUNDS {
         if MAX_WORK < p.state.work {
-            return Ended::Finished(p, true);
+            return Ok((p, true));
         }
-        let a = round(s, p, vs, lens, pref, b, u, f, w, triples, rows);
+        let a = round(s, p, vs, lens, pref, b, u, f, w, triples, rows)?;
         match a {
-            Step::Again(q) => {
-                p = q;
-            }
-            Step::Next(q) => {
-                return Ended::Finished(q, false);
-            }
-            Step::Done(q) => {
-                return Ended::Finished(q, false);
-            }
-            Step::Refused(n) => {
-                return Ended::Refused(n);
-            }
+            Step::Again(q) => p = q,
+            Step::Next(q) => return Ok((q, false)),
+            Step::Done(q) => return Ok((q, false)),
         }
     }
-    Ended::Finished(p, false)
+    Ok((p, false))
 }

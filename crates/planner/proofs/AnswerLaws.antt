@@ -10,29 +10,29 @@ use Rattle.report.specs.Zero.{used}
 use Rattle.report.specs.Report.{report_of}
 use Rattle.report.specs.declared.clear.Used.{Used}
 use Rattle.report.specs.declared.report.AdaptiveReport.{AdaptiveReport}
-use Rattle.plan.specs.Rounds.{ListedEnd}
+use Rattle.std.specs.Prelude.{Ok, Err}
+use Rattle.cutting.specs.declared.listing.Full.{Full}
+use Rattle.plan.specs.Rounds.{Ended, ListedEnd}
 use Rattle.plan.specs.declared.parts.Progress.{Progress}
-use Rattle.plan.specs.declared.turns.Ended.{Ended}
-use Rattle.plan.specs.declared.turns.Ended.TheVariants.{Finished, Refused as Stopped}
-use Rattle.planner.specs.Planner.{unentered, finish, answer_by, used_of}
-use Rattle.planner.specs.declared.outcome.Answer.{Answer}
-use Rattle.planner.specs.declared.outcome.Answer.TheVariants.{Refused, Accepted}
+use Rattle.planner.specs.Planner.{Answer, unentered, finish, answer_by, used_of}
+use Rattle.planner.specs.declared.outcome.Refusal.{Refusal}
+use Rattle.planner.specs.declared.outcome.Refusal.TheVariants.{NoRoom, Unentered}
 
 -- ---- what stays
 
 module _ (n : ℕ) (e : Ended) (a : Answer) (c : Used) where
-  pub used-none : (k : ℕ) → a ≡ Refused k → c ≡ used 0 0 0 → c ≡ used_of n e a
+  pub used-none : (k : Refusal) → a ≡ Err k → c ≡ used 0 0 0 → c ≡ used_of n e a
   unfolding used_of
   used-none k A C = C ∙ ap (used_of n e) (sym A)
 
-  module _ (r : AdaptiveReport) (A : a ≡ Accepted r) where
-    pub used_stopped : (k : ℕ) → e ≡ Stopped k → c ≡ used 0 0 0 → c ≡ used_of n e a
+  module _ (r : AdaptiveReport) (A : a ≡ Ok r) where
+    pub used_stopped : (k : Full) → e ≡ Err k → c ≡ used 0 0 0 → c ≡ used_of n e a
     unfolding used_of
-    used_stopped k E C = C ∙ ap (λ (x : Ended). used_of n x (Accepted r)) (sym E) ∙ ap (used_of n e) (sym A)
+    used_stopped k E C = C ∙ ap (λ (x : Ended). used_of n x (Ok r)) (sym E) ∙ ap (used_of n e) (sym A)
 
-    pub used_finished : (q : Progress) (spent : Bool) → e ≡ Finished q spent → c ≡ used n q.state.rows q.state.triples → c ≡ used_of n e a
+    pub used_finished : (q : Progress) (spent : Bool) → e ≡ Ok (q, spent) → c ≡ used n q.state.rows q.state.triples → c ≡ used_of n e a
     unfolding used_of
-    used_finished q spent E C = C ∙ ap (λ (x : Ended). used_of n x (Accepted r)) (sym E) ∙ ap (used_of n e) (sym A)
+    used_finished q spent E C = C ∙ ap (λ (x : Ended). used_of n x (Ok r)) (sym E) ∙ ap (used_of n e) (sym A)
 
 -- ---- the answer
 
@@ -40,20 +40,20 @@ module _ (p : AdaptiveParams) (cell : Float) (starting : ℕ) (reach m rows : Li
   abbrev answer : Ended → Answer
   answer x = answer_by p cell starting reach m rows triples x
 
-  pub answer_stopped : (k : ℕ) → e ≡ Stopped k → Refused k ≡ answer e
+  pub answer_stopped : (k : Full) → e ≡ Err k → Err (NoRoom k) ≡ answer e
   unfolding answer_by
   answer_stopped k E = ap answer (sym E)
 
-  module _ (q : Progress) (spent : Bool) (E : e ≡ Finished q spent) where
-    pub answer-unentered : unentered q.state.rows starting ≡ true → Refused 18 ≡ answer e
+  module _ (q : Progress) (spent : Bool) (E : e ≡ Ok (q, spent)) where
+    pub answer-unentered : unentered q.state.rows starting ≡ true → Err Unentered ≡ answer e
     unfolding answer_by
     answer-unentered u = rw (E, u) refl
 
-    pub answer_accepted : unentered q.state.rows starting ≡ false → (r : AdaptiveReport) → r ≡ report_of cell (finish p starting q.given spent) q.state m reach rows triples → Accepted r ≡ answer e
+    pub answer_accepted : unentered q.state.rows starting ≡ false → (r : AdaptiveReport) → r ≡ report_of cell (finish p starting q.given spent) q.state m reach rows triples → Ok r ≡ answer e
     unfolding answer_by
-    answer_accepted u r R = rw (E, u) (ap Accepted R)
+    answer_accepted u r R = rw (E, u) (ap Ok R)
 
 -- ---- what is listed lies in the rows
 
-pub listed-rows : (rows : List ℕ) (o : List Float) (e : Ended) (q : Progress) (spent : Bool) → e ≡ Finished q spent → ListedEnd rows o e → q.state.rows * 3 ≤ length rows
-listed-rows rows o e q spent E h = let x : ListedEnd rows o (Finished q spent) = subst (ListedEnd rows o) E h in x.fit_rows
+pub listed-rows : (rows : List ℕ) (o : List Float) (e : Ended) (q : Progress) (spent : Bool) → e ≡ Ok (q, spent) → ListedEnd rows o e → q.state.rows * 3 ≤ length rows
+listed-rows rows o e q spent E h = let x : ListedEnd rows o (Ok (q, spent)) = subst (ListedEnd rows o) E h in x.fit_rows

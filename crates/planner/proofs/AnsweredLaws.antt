@@ -25,8 +25,8 @@ use Rattle.events.proofs.Finish.{finished}
 use Rattle.entry.specs.Admitted.{Admitted}
 use Rattle.entry.specs.Questions.{judged_of}
 use Rattle.entry.specs.declared.params.AdaptiveParams.{AdaptiveParams}
-use Rattle.entry.specs.declared.judge.Judged.{Judged}
-use Rattle.entry.specs.declared.judge.Judged.TheVariants.{Fit as Fitting, Refused as Barred}
+use Rattle.std.specs.Prelude.{Result, Ok, Err}
+use Rattle.entry.specs.declared.questions.Question.{Question}
 use Rattle.entry.proofs.JudgedLaws.{judged_fit}
 use Rattle.report.specs.Report.{report_of, told_of}
 use Rattle.report.specs.Zero.{Lent, headed, cleared_to}
@@ -34,15 +34,15 @@ use Rattle.report.specs.declared.report.AdaptiveReport.{AdaptiveReport}
 use Rattle.report.proofs.CountedLaws.{report_counted}
 use Rattle.plan.specs.Job.{job_in}
 use Rattle.plan.specs.Parts.{Ground, Slices}
-use Rattle.plan.specs.Rounds.{plan_of}
+use Rattle.std.specs.Prelude.{Ok, Err}
+use Rattle.cutting.specs.Listing.{number_of}
+use Rattle.cutting.specs.declared.listing.Full.{Full}
+use Rattle.plan.specs.Rounds.{Ended, plan_of}
 use Rattle.plan.specs.declared.parts.Progress.{Progress}
-use Rattle.plan.specs.declared.turns.Ended.{Ended}
-use Rattle.plan.specs.declared.turns.Ended.TheVariants.{Finished, Refused as Stopped}
 use Rattle.plan.proofs.PlanTold.{PlanMade, plan_finished, plan_long}
-use Rattle.planner.specs.Planner.{Job, setup_for, limit_of, start_of, ground_of, slices_of, plan_for, finish, unentered, answer_by, used_of, planned_by, threes, planned_of, lengths_of, outcome_by, outcome_of}
+use Rattle.planner.specs.Planner.{Job, Answer, setup_for, limit_of, start_of, ground_of, slices_of, plan_for, finish, unentered, answer_by, used_of, planned_by, threes, planned_of, lengths_of, outcome_by, outcome_of}
 use Rattle.planner.specs.Answered.{event_job, plan_in, AnswerTold}
-use Rattle.planner.specs.declared.outcome.Answer.{Answer}
-use Rattle.planner.specs.declared.outcome.Answer.TheVariants.{Refused, Accepted}
+use Rattle.planner.specs.declared.outcome.Refusal.TheVariants.{Unentered}
 use Rattle.planner.proofs.JobLaws.{start-long, job-zeros, admitted_sides, admitted_measured, admitted_fit}
 
 -- ---- lists at the head of a slice
@@ -71,8 +71,8 @@ module _ (rows : List ℕ) (triples : List Float) (cs : List Chunk) (h : Holds r
 
 -- of the events es, on n cells, with what is handed back, o, after the end e
 abbrev pub OutTold : EventJob → List Event → ℕ → Ended → Lent → Answer → Type 0
-OutTold j es n e o (Refused x) = Unit {0}
-OutTold j es n e o (Accepted r) = FinishedPlan j es (told_of r) (take n o.bytes) (used_of n e (Accepted r)).rows o.rows o.triples
+OutTold j es n e o (Err x) = Unit {0}
+OutTold j es n e o (Ok r) = FinishedPlan j es (told_of r) (take n o.bytes) (used_of n e (Ok r)).rows o.rows o.triples
 
 module _ (g : Ground) (start : List ℕ) (limit : Float) (S : Sides g.setup.grid) (M : Measured g.setup) (F : Fit (job_in g start limit))
     (h : Slices) (standing : h.map ≡ start) (none-gone : h.gone ≡ zeros (job_in g start limit)) (empty : h.log ≡ zeros (job_in g start limit))
@@ -98,7 +98,7 @@ module _ (g : Ground) (start : List ℕ) (limit : Float) (S : Sides g.setup.grid
   abbrev cleared : Ended → Answer → Lent
   cleared e a = cleared_to (used_of n e a) k.map k.rows k.out l
 
-  module _ (q : Progress) (spent : Bool) (E : (plan_of g h).left.answer ≡ Finished q spent) where
+  module _ (q : Progress) (spent : Bool) (E : (plan_of g h).left.answer ≡ Ok (q, spent)) where
     made : PlanMade ev es k q
     made = plan_finished g start limit S M F h standing none-gone empty q spent E
 
@@ -117,7 +117,7 @@ module _ (g : Ground) (start : List ℕ) (limit : Float) (S : Sides g.setup.grid
     back : take n (headed 0 (length l.bytes) (take n k.map)) ≡ k.map
     back = headed-first 0 (length l.bytes) n n k.map refl (omega (arith, map-long)) ∙ take_all n k.map (omega (arith, map-long))
 
-    accepted_told : OutTold ev es n (Finished q spent) (cleared (Finished q spent) (Accepted report)) (Accepted report)
+    accepted_told : OutTold ev es n (Ok (q, spent)) (cleared (Ok (q, spent)) (Ok report)) (Ok report)
     unfolding used_of cleared_to
     accepted_told =
         let rows = headed 0 (length l.rows) (take (3 * q.state.rows) k.rows) in
@@ -131,10 +131,10 @@ module _ (g : Ground) (start : List ℕ) (limit : Float) (S : Sides g.setup.grid
 
   end-told : (e : Ended) → (plan_of g h).left.answer ≡ e → OutTold ev es n e (cleared e (answer e)) (answer e)
   unfolding answer_by
-  end-told (Finished q spent) E =
-      by_test (λ (a : Answer). OutTold ev es n (Finished q spent) (cleared (Finished q spent) a) a) (unentered q.state.rows (ones h.map))
-      (Refused 18) (Accepted (report q spent E)) (λ z. tt) (λ z. accepted_told q spent E)
-  end-told (Stopped x) E = tt
+  end-told (Ok (q, spent)) E =
+      by_test (λ (a : Answer). OutTold ev es n (Ok (q, spent)) (cleared (Ok (q, spent)) a) a) (unentered q.state.rows (ones h.map))
+      (Err Unentered) (Ok (report q spent E)) (λ z. tt) (λ z. accepted_told q spent E)
+  end-told (Err x) E = tt
 
   pub planned_told : OutTold ev es n (plan_of g h).left.answer (planned_by p g h l).lent (planned_by p g h l).answer
   unfolding planned_by
@@ -150,8 +150,8 @@ module _ (j : Job) (l : Lent) where
   triples-lent = threes (length l.triples)
 
   out-answer : (o : Lent) (a : Answer) → OutTold (event_job j) (plan_in j l).events (cells_of (setup_for j)) (plan_in j l).left.answer o a → AnswerTold j l o a
-  out-answer o (Refused x) t = tt
-  out-answer o (Accepted r) t = t
+  out-answer o (Err x) t = tt
+  out-answer o (Ok r) t = t
 
   fit_told : (g : Grid) → Admitted j.params j.whole j.vs j.lens j.regions (lengths_of l) g → AnswerTold j l (planned_of j l).lent (planned_of j l).answer
   unfolding planned_of plan_for ground_of slices_of
@@ -164,10 +164,10 @@ module _ (j : Job) (l : Lent) where
       (admitted_fit j.params j.whole j.vs j.lens j.regions (lengths_of l) g A)
       (slices_of j rows-lent triples-lent) refl none none (start-long j.params j.whole j.vs j.lens j.regions) j.params l)
 
-  judged-told : (a : Judged) → judged_of j.params j.whole j.vs j.lens j.regions (lengths_of l) ≡ a → AnswerTold j l (outcome_by j l a).lent (outcome_by j l a).answer
+  judged-told : (a : Result Grid Question) → judged_of j.params j.whole j.vs j.lens j.regions (lengths_of l) ≡ a → AnswerTold j l (outcome_by j l a).lent (outcome_by j l a).answer
   unfolding outcome_by
-  judged-told (Barred x) E = tt
-  judged-told (Fitting g) E = fit_told g (judged_fit j.params j.whole j.vs j.lens j.regions (lengths_of l) g E)
+  judged-told (Err x) E = tt
+  judged-told (Ok g) E = fit_told g (judged_fit j.params j.whole j.vs j.lens j.regions (lengths_of l) g E)
 
 -- the theorem: whatever is asked and lent
 pub answer-told : (j : Job) (l : Lent) → AnswerTold j l (outcome_of j l).lent (outcome_of j l).answer

@@ -6,7 +6,6 @@ use Prim.Native.Nat.{ℕ, zero, suc, ◌*◌, ◌≤◌}
 use native.Mathlib.Omega.{arith}
 use lib.ListN.{length, take, replicate, length-replicate}
 use lib.Ieee.{Float}
-use Rattle.numbers.specs.Bound.{Bounds}
 use Rattle.geom.specs.Vec.{f0}
 use Rattle.raster.specs.Grid.{Sides}
 use Rattle.raster.specs.declared.grid.Grid.{Grid}
@@ -20,21 +19,20 @@ use Rattle.entry.specs.Regions.{pocket_of, AllHeld}
 use Rattle.entry.specs.Admitted.{Admitted}
 use Rattle.entry.specs.Questions.{helix_of, judged_of}
 use Rattle.entry.specs.declared.params.AdaptiveParams.{AdaptiveParams}
-use Rattle.entry.specs.declared.judge.Judged.{Judged}
-use Rattle.entry.specs.declared.judge.Judged.TheVariants.{Fit, Refused as Barred}
+use Rattle.std.specs.Prelude.{Result, Ok, Err}
+use Rattle.entry.specs.declared.questions.Question.{Question}
 use Rattle.start.specs.Start.{stock_of, may_in, reach_of, Started}
 use Rattle.start.specs.Steps.{Room}
 use Rattle.start.proofs.StartLaws.{room_of}
 use Rattle.start.proofs.WriteLaws.{same-run}
 use Rattle.report.specs.Zero.{Lent, lent}
 use Rattle.plan.specs.Parts.{Ground, Slices, slices, slices_in, ground_in}
-use Rattle.planner.specs.Planner.{Job, job, setup_for, start_of, ground_of, slices_of, threes, outcome, Outcome, lengths_of, planned_by, planned_of, outcome_by, outcome_of}
+use Rattle.planner.specs.Planner.{Job, Answer, job, setup_for, start_of, ground_of, slices_of, threes, outcome, Outcome, lengths_of, planned_by, planned_of, outcome_by, outcome_of}
 use Rattle.planner.specs.Answered.{AnswerTold}
-use Rattle.planner.specs.declared.outcome.Answer.{Answer}
-use Rattle.planner.specs.declared.outcome.Answer.TheVariants.{Refused}
+use Rattle.planner.specs.declared.outcome.Refusal.TheVariants.{No}
 use Rattle.planner.proofs.ReadyLaws.{threes_fit, cleared-same}
 use Rattle.planner.proofs.AnsweredLaws.{answer-told}
-use Rattle.planner.proofs.JobLaws.{job-grid, job-region, job-samples, job-bound, admitted_setup, admitted_sides, admitted_lent}
+use Rattle.planner.proofs.JobLaws.{job-grid, job-region, job-samples, admitted_setup, admitted_sides, admitted_lent}
 
 -- ---- zeros
 
@@ -63,7 +61,7 @@ module _ (p : AdaptiveParams) (whole : Bool) (vs : List Float) (lens regions : L
 
     module _ (g : Grid) (A : Admitted p whole vs lens regions (lengths_of given) g) where
       abbrev Asks : Setup → Type 0
-      Asks s = Sides s.grid × (AllHeld vs lens regions × ((s.region ≡ pocket_of lens regions) × (Bounds s.keep s.bound × ((s.samples ≤ 2048) × Room (cells_of s) (length b) (length u) (length w)))))
+      Asks s = Sides s.grid × (AllHeld vs lens regions × ((s.region ≡ pocket_of lens regions) × ((s.samples ≤ 2048) × Room (cells_of s) (length b) (length u) (length w))))
 
       -- what making it ready asks for
       pub ready_asks : (s : Setup) → s ≡ setup_of g (pocket_of lens regions) p.tool_diameter p.stock_to_leave p.max_engagement_deg p.keep_tool_down → Asks s
@@ -75,11 +73,8 @@ module _ (p : AdaptiveParams) (whole : Bool) (vs : List Float) (lens regions : L
               (
                 job-region p whole vs lens regions,
                 (
-                  job-bound p whole vs lens regions,
-                  (
-                    (job-samples p whole vs lens regions).1,
-                    room_of _ _ _ _ _ (admitted_lent p whole vs lens regions (lengths_of given) g A),
-                  ),
+                  (job-samples p whole vs lens regions).1,
+                  room_of _ _ _ _ _ (admitted_lent p whole vs lens regions (lengths_of given) g A),
                 ),
               ),
             ),
@@ -165,12 +160,12 @@ module _ (p : AdaptiveParams) (whole : Bool) (vs : List Float) (lens regions : L
 
   -- ---- any job
 
-  module _ (l : Lent) (r : Judged) (J : r ≡ judged_of p whole vs lens regions (lengths_of l)) where
-    pub outcome-refused : (n : ℕ) → r ≡ Barred n → outcome l (Refused n) ≡ outcome_of the_job l
+  module _ (l : Lent) (r : Result Grid Question) (J : r ≡ judged_of p whole vs lens regions (lengths_of l)) where
+    pub outcome-refused : (q : Question) → r ≡ Err q → outcome l (Err (No q)) ≡ outcome_of the_job l
     unfolding outcome_of outcome_by
-    outcome-refused n e = ap (outcome_by the_job l) (sym e ∙ J)
+    outcome-refused q e = ap (outcome_by the_job l) (sym e ∙ J)
 
-    pub outcome_planned : (g : Grid) → r ≡ Fit g → planned_of the_job l ≡ outcome_of the_job l
+    pub outcome_planned : (g : Grid) → r ≡ Ok g → planned_of the_job l ≡ outcome_of the_job l
     unfolding outcome_of outcome_by
     outcome_planned g e = ap (outcome_by the_job l) (sym e ∙ J)
 

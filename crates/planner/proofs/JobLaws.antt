@@ -7,13 +7,12 @@ use Prim.Native.Nat.{ℕ, ◌*◌, ◌≤◌, ◌^◌}
 use native.Mathlib.Omega.{arith}
 use lib.ListN.{length, replicate}
 use lib.Ieee.{Float, lt}
-use Rattle.numbers.specs.Bound.{Bounds}
 use Rattle.raster.specs.Grid.{Sides}
 use Rattle.raster.specs.declared.grid.Grid.{Grid}
 use Rattle.setup.specs.Layout.{Lent}
 use Rattle.setup.specs.Made.{setup_of, Measured}
 use Rattle.setup.specs.Place.{cells_of}
-use Rattle.setup.proofs.MadeLaws.{made_samples, made_bound, made_guard, made_measured}
+use Rattle.setup.proofs.MadeLaws.{made_samples, made_guard, made_measured}
 use Rattle.events.specs.Events.{zeros, Fit}
 use Rattle.entry.specs.Admitted.{Admitted}
 use Rattle.entry.specs.Regions.{pocket_of}
@@ -43,9 +42,6 @@ module _ (p : AdaptiveParams) (whole : Bool) (vs : List Float) (lens regions : L
 
   pub job-samples : (64 ≤ (setup_for the_job).samples) × ((setup_for the_job).samples ≤ 2048)
   job-samples = made_samples (grid_of the_job) (pocket_of lens regions) p.tool_diameter p.stock_to_leave p.max_engagement_deg p.keep_tool_down
-
-  pub job-bound : Bounds (setup_for the_job).keep (setup_for the_job).bound
-  job-bound = made_bound (grid_of the_job) (pocket_of lens regions) p.tool_diameter p.stock_to_leave p.max_engagement_deg p.keep_tool_down
 
   -- the starting stock is as long as the raster has cells
   pub start-long : length (start_of the_job) ≡ cells_of (setup_for the_job)

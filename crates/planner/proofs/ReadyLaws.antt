@@ -22,12 +22,11 @@ use Rattle.entry.specs.declared.params.AdaptiveParams.{AdaptiveParams}
 use Rattle.report.specs.Zero.{Lent, lent, headed, cleared_to}
 use Rattle.report.specs.declared.clear.Used.{Used}
 use Rattle.plan.specs.Parts.{slices_in, ground_in}
-use Rattle.plan.specs.Rounds.{EndLeft, el, first_progress, plan_of, ListedEnd, EndKept}
-use Rattle.plan.specs.declared.turns.Ended.{Ended}
-use Rattle.plan.specs.declared.turns.Ended.TheVariants.{Finished, Refused as Stopped}
-use Rattle.planner.specs.Planner.{Outcome, outcome, answer_by, used_of, threes, planned_by}
-use Rattle.planner.specs.declared.outcome.Answer.{Answer}
-use Rattle.planner.specs.declared.outcome.Answer.TheVariants.{Refused, Accepted}
+use Rattle.std.specs.Prelude.{Ok, Err}
+use Rattle.cutting.specs.Listing.{number_of}
+use Rattle.cutting.specs.declared.listing.Full.{Full}
+use Rattle.plan.specs.Rounds.{Ended, EndLeft, el, first_progress, plan_of, ListedEnd, EndKept}
+use Rattle.planner.specs.Planner.{Answer, Outcome, outcome, answer_by, used_of, threes, planned_by}
 
 -- ---- how much of a slice is lent
 
@@ -79,9 +78,9 @@ record UsedFits (n : ℕ) (r : List ℕ) (o : List Float) (c : Used) : Type 0 wh
 
 used-fits : (n : ℕ) (rows : List ℕ) (o : List Float) (e : Ended) (a : Answer) → ListedEnd rows o e → UsedFits n rows o (used_of n e a)
 unfolding used_of
-used-fits n rows o e (Refused k) L = record { cells = omega arith; rows = omega arith; triples = omega arith }
-used-fits n rows o (Stopped k) (Accepted r) L = record { cells = omega arith; rows = omega arith; triples = omega arith }
-used-fits n rows o (Finished q spent) (Accepted r) L = record { cells = omega arith; rows = L.fit_rows; triples = omega (arith, L.fit_triples) }
+used-fits n rows o e (Err k) L = record { cells = omega arith; rows = omega arith; triples = omega arith }
+used-fits n rows o (Err f) (Ok r) L = record { cells = omega arith; rows = omega arith; triples = omega arith }
+used-fits n rows o (Ok (q, spent)) (Ok r) L = record { cells = omega arith; rows = L.fit_rows; triples = omega (arith, L.fit_triples) }
 
 -- the map is at the head of the bytes
 map_is : (n : ℕ) (b : List ℕ) → take (n - 0) (drop 0 b) ≡ map_in n b

@@ -17,8 +17,7 @@ use Rattle.events.specs.Helix.{shrink}
 use Rattle.entry.specs.Admitted.{Admitted}
 use Rattle.entry.specs.Questions.{c03, f100, absent_or, at_most1000, given_or, helix_of}
 use Rattle.entry.specs.declared.params.AdaptiveParams.{AdaptiveParams}
-use Rattle.entry.specs.declared.params.Setting.{Setting}
-use Rattle.entry.specs.declared.params.Setting.TheVariants.{Absent, Given}
+use Rattle.std.specs.Prelude.{Option, None, Some}
 use Rattle.entry.specs.declared.judge.Lengths.{Lengths}
 use Rattle.helix.specs.Search.{bare_job, widest_of, radius_at}
 use Rattle.helix.proofs.ShrinkLaws.{shrinks_unmet}
@@ -31,10 +30,10 @@ default_few d h =
     subst (λ (x : Float). le x f1000 ≡ true) (mul_swap binary64 d c03)
     (le_le (mul binary64 d c03) (mul binary64 f100 c03) f1000 (mul_mono binary64 d f100 c03 refl h (scale_number binary64 d c03 (le_numbers d f100 h).0 tt tt) refl) refl)
 
-setting_few : (d : Float) (r : Setting) → le d f100 ≡ true → absent_or at_most1000 r ≡ true → le (given_or (mul binary64 c03 d) r) f1000 ≡ true
+setting_few : (d : Float) (r : Option Float) → le d f100 ≡ true → absent_or at_most1000 r ≡ true → le (given_or (mul binary64 c03 d) r) f1000 ≡ true
 unfolding absent_or at_most1000 given_or
-setting_few d Absent h g = default_few d h
-setting_few d (Given x) h g = g
+setting_few d None h g = default_few d h
+setting_few d (Some x) h g = g
 
 module _ (p : AdaptiveParams) (whole : Bool) (vs : List Float) (lens regions : List ℕ) (l : Lengths) (g : Grid) (A : Admitted p whole vs lens regions l g) where
   pref-few : le (helix_of p) f1000 ≡ true

@@ -1,6 +1,6 @@
 -- `adaptive_clear` of adaptive.rs, without tool paths and texts: a job and two lengths settle the plan, the report, and what every lent slice holds afterwards.
 -- Definitions only.
-use Rattle.std.specs.Prelude.{ℕ, ◌*◌, ◌/◌, min, Bool, cond, ◌&&◌, List, length, replicate, eqb, ltb, Float}
+use Rattle.std.specs.Prelude.{ℕ, ◌*◌, ◌/◌, min, Bool, cond, ◌&&◌, List, length, replicate, eqb, ltb, Float, Result, Ok, Err}
 use Rattle.loops.specs.Cells.{ones}
 use Rattle.geom.specs.Vec.{f0}
 use Rattle.numbers.specs.Circle.{radians_of}
@@ -9,13 +9,12 @@ use Rattle.field.specs.Field.{s0}
 use Rattle.setup.specs.Made.{setup_of}
 use Rattle.setup.specs.Place.{cells_of}
 use Rattle.setup.specs.declared.Setup.{Setup}
-use Rattle.cutting.specs.Listing.{most_listed}
+use Rattle.cutting.specs.Listing.{number_of as full_number, most_listed}
 use Rattle.entry.specs.Regions.{pocket_of}
-use Rattle.entry.specs.Questions.{helix_of, job_grid, judged_of}
+use Rattle.entry.specs.Questions.{helix_of, job_grid, number_of as question_number, judged_of}
 use Rattle.entry.specs.declared.params.AdaptiveParams.{AdaptiveParams}
 use Rattle.entry.specs.declared.judge.Lengths.{Lengths}
-use Rattle.entry.specs.declared.judge.Judged.{Judged}
-use Rattle.entry.specs.declared.judge.Judged.TheVariants.{Fit, Refused as Barred}
+use Rattle.entry.specs.declared.questions.Question.{Question}
 use Rattle.start.specs.Start.{stock_of, walls_in, may_in, reach_of}
 use Rattle.report.specs.Report.{report_of}
 use Rattle.report.specs.Zero.{Lent, used, cleared_to}
@@ -23,11 +22,9 @@ use Rattle.report.specs.declared.clear.Used.{Used}
 use Rattle.report.specs.declared.report.Finish.{Finish}
 use Rattle.report.specs.declared.report.AdaptiveReport.{AdaptiveReport}
 use Rattle.plan.specs.Parts.{Ground, Slices, slices}
-use Rattle.plan.specs.Rounds.{End, plan_of}
-use Rattle.plan.specs.declared.turns.Ended.{Ended}
-use Rattle.plan.specs.declared.turns.Ended.TheVariants.{Finished, Refused as Stopped}
-use Rattle.planner.specs.declared.outcome.Answer.{Answer}
-use Rattle.planner.specs.declared.outcome.Answer.TheVariants.{Refused, Accepted}
+use Rattle.plan.specs.Rounds.{End, Ended, plan_of}
+use Rattle.planner.specs.declared.outcome.Refusal.{Refusal}
+use Rattle.planner.specs.declared.outcome.Refusal.TheVariants.{No, NoRoom, Unentered}
 
 -- ---- a job
 
@@ -87,11 +84,21 @@ finish p starting given spent = record { top = p.top; bottom = p.bottom; step_do
 unfoldable pub unentered : ℕ → ℕ → Bool
 unentered rows starting = eqb rows 0 && ltb 0 starting
 
+-- document 01's number of a refusal
+unfoldable pub refusal_number : Refusal → ℕ
+refusal_number (No q) = question_number q
+refusal_number (NoRoom f) = full_number f
+refusal_number Unentered = 18
+
+-- the report of the plan, or why there is none
+abbrev pub Answer : Type 0
+Answer = Result AdaptiveReport Refusal
+
 -- 16 and 17 as planning met them, 18 by count, else the report
 unfoldable pub answer_by : AdaptiveParams → Float → ℕ → List ℕ → List ℕ → List ℕ → List Float → Ended → Answer
-answer_by p cell starting reach m rows triples (Finished q spent) =
-    cond (unentered q.state.rows starting) (Refused 18) (Accepted (report_of cell (finish p starting q.given spent) q.state m reach rows triples))
-answer_by p cell starting reach m rows triples (Stopped n) = Refused n
+answer_by p cell starting reach m rows triples (Ok (q, spent)) =
+    cond (unentered q.state.rows starting) (Err Unentered) (Ok (report_of cell (finish p starting q.given spent) q.state m reach rows triples))
+answer_by p cell starting reach m rows triples (Err f) = Err (NoRoom f)
 
 -- ---- what is lent, and what it then holds
 
@@ -104,9 +111,9 @@ outcome l a = record { lent = l; answer = a }
 
 -- what stays of a plan: the map's cells, the listed rows and triples; after a refusal nothing
 unfoldable pub used_of : ℕ → Ended → Answer → Used
-used_of n e (Refused k) = used 0 0 0
-used_of n (Stopped k) (Accepted r) = used 0 0 0
-used_of n (Finished q spent) (Accepted r) = used n q.state.rows q.state.triples
+used_of n e (Err k) = used 0 0 0
+used_of n (Err f) (Ok r) = used 0 0 0
+used_of n (Ok (q, spent)) (Ok r) = used n q.state.rows q.state.triples
 
 -- planned over the ground g from the slices h, in what is lent
 unfoldable pub planned_by : AdaptiveParams → Ground → Slices → Lent → Outcome
@@ -127,9 +134,9 @@ abbrev pub lengths_of : Lent → Lengths
 lengths_of l = record { bytes = length l.bytes; words = length l.words; singles = length l.singles; doubles = length l.doubles }
 
 -- 1 to 15 change nothing
-unfoldable pub outcome_by : Job → Lent → Judged → Outcome
-outcome_by j l (Barred n) = outcome l (Refused n)
-outcome_by j l (Fit g) = planned_of j l
+unfoldable pub outcome_by : Job → Lent → Result Grid Question → Outcome
+outcome_by j l (Err q) = outcome l (Err (No q))
+outcome_by j l (Ok g) = planned_of j l
 
 unfoldable pub outcome_of : Job → Lent → Outcome
 outcome_of j l = outcome_by j l (judged_of j.params j.whole j.vs j.lens j.regions (lengths_of l))

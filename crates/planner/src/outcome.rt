@@ -9,12 +9,15 @@ ghost use Rattle.entry.specs.Admitted.{Admitted};
 ghost use Rattle.plan.specs.Parts.{slices_in, ground_in};
 ghost use Rattle.plan.specs.Rounds.{ListedEnd};
 ghost use Rattle.report.specs.Zero.{lent, used};
-ghost use Rattle.planner.specs.Planner.{job, answer_by, used_of, threes, outcome, lengths_of, planned_by, planned_of, outcome_of};
+ghost use Rattle.planner.specs.Planner.{job, answer_by, used_of, threes, outcome, refusal_number, lengths_of, planned_by, planned_of, outcome_of};
 ghost use Rattle.planner.specs.Answered.{AnswerTold};
 
-use entry::judge::{Judged, Lengths, judge};
+use cutting::listing::Full;
+use entry::judge::{Lengths, judge};
 use entry::params::{AdaptiveParams, helix_of};
-use plan::turns::{Ended, plan};
+use entry::questions::Question;
+use plan::parts::Progress;
+use plan::turns::plan;
 use raster::grid::Grid;
 use report::clear::{Used, clear};
 use report::report::{AdaptiveReport, Finish, report_of};
@@ -22,11 +25,26 @@ use setup::Setup;
 use setup::layout::cells;
 use start::ready::{make_ready, setup_of};
 
-// Document 01's number of a refusal, or the report of the plan.
+// Why a job has no plan: the first question on it that is a no, what is full where an event has no room, or that
+// nothing of the stock is entered.
 #[derive(Clone, Copy)]
-pub enum Answer {
-    Refused(u32),
-    Accepted(AdaptiveReport),
+pub enum Refusal {
+    No(Question),
+    NoRoom(Full),
+    Unentered,
+}
+
+// Document 01's number of it: 1 to 15, 16 and 17, 18.
+impl From<Refusal> for u32 {
+    ghost from_gives = { λ r n. n ≡ refusal_number r };
+
+    fn from(r: Refusal) -> u32 {
+        match r {
+            Refusal::No(question) => question.number(),
+            Refusal::NoRoom(full) => full.into(),
+            Refusal::Unentered => 18,
+        }
+    }
 }
 
 // A row's numbers are u32: so many rows or triples can be named.
@@ -48,22 +66,22 @@ fn answer_of(
     p: AdaptiveParams,
     s: Setup,
     starting: usize,
-    e: Ended,
+    e: Result<(Progress, bool), Full>,
     b: &[u8],
     rows: &[u32],
     triples: &[f64],
-) -> Answer
+) -> Result<AdaptiveReport, Refusal>
     requires sides { Sides s.grid }
     requires s_in_bounds { 8 * cells_of s ≤ length b.now }
     requires listed_end { ListedEnd rows.now triples.now e }
     ensures { result ≡ answer_by p s.grid.cell starting (reach_in (cells_of s) b.now) (map_in (cells_of s) b.now) rows.now triples.now e }
 {
     match e {
-        Ended::Refused(n) => Answer::Refused(n),
-        Ended::Finished(q, spent) => {
+        Err(full) => Err(Refusal::NoRoom(full)),
+        Ok((q, spent)) => {
             let t = q.state;
             if (t.rows == 0) & (0 < starting) {
-                return Answer::Refused(18);
+                return Err(Refusal::Unentered);
             }
             let f = Finish {
                 top: p.top,
@@ -73,7 +91,7 @@ fn answer_of(
                 given_up: q.given,
                 spent,
             };
-            Answer::Accepted(report_of(s, f, t, b, rows, triples))
+            Ok(report_of(s, f, t, b, rows, triples))
         }
     }
 }
@@ -89,14 +107,14 @@ fn nothing() -> Used
 }
 
 // What stays of a plan; after a refusal nothing.
-fn used_by(n: usize, e: Ended, a: Answer) -> Used
+fn used_by(n: usize, e: Result<(Progress, bool), Full>, a: Result<AdaptiveReport, Refusal>) -> Used
     ensures { result ≡ used_of n e a }
 {
     match a {
-        Answer::Refused(no) => nothing(),
-        Answer::Accepted(r) => match e {
-            Ended::Refused(no) => nothing(),
-            Ended::Finished(q, spent) => {
+        Err(_) => nothing(),
+        Ok(_) => match e {
+            Err(_) => nothing(),
+            Ok((q, _)) => {
                 let t = q.state;
                 Used {
                     cells: n,
@@ -120,7 +138,7 @@ fn plan_ready(
     w: &mut [f64],
     rows: &mut [u32],
     triples: &mut [f64],
-) -> Answer
+) -> Result<AdaptiveReport, Refusal>
     requires standing { Standing s vs.now lens.now b.old u.old w.old }
     requires s_in_bounds { 2 * cells_of s ≤ length f.old }
     ensures { outcome (lent b.new u.new f.new w.new rows.new triples.new) result ≡ planned_by p (ground_in s vs.now lens.now (helix_of p) b.old w.old) (slices_in (cells_of s) b.old u.old f.old (take (3 * threes (length rows.old)) rows.old) (take (3 * threes (length triples.old)) triples.old)) (lent b.old u.old f.old w.old rows.old triples.old) }
@@ -160,7 +178,7 @@ fn plan_fit(
     w: &mut [f64],
     rows: &mut [u32],
     triples: &mut [f64],
-) -> Answer
+) -> Result<AdaptiveReport, Refusal>
     requires { Admitted p whole vs.now lens.now regions.now (lengths_of (lent b.old u.old f.old w.old rows.old triples.old)) g }
     ensures { outcome (lent b.new u.new f.new w.new rows.new triples.new) result ≡ planned_of (job p whole vs.now lens.now regions.now) (lent b.old u.old f.old w.old rows.old triples.old) }
 {
@@ -183,7 +201,7 @@ pub fn adaptive_clear(
     w: &mut [f64],
     rows: &mut [u32],
     triples: &mut [f64],
-) -> Answer
+) -> Result<AdaptiveReport, Refusal>
     ensures result_after { outcome (lent b.new u.new f.new w.new rows.new triples.new) result ≡ outcome_of (job p whole vs.now lens.now regions.now) (lent b.old u.old f.old w.old rows.old triples.old) }
     ensures answer_told { AnswerTold (job p whole vs.now lens.now regions.now) (lent b.old u.old f.old w.old rows.old triples.old) (lent b.new u.new f.new w.new rows.new triples.new) result }
 {
@@ -193,9 +211,8 @@ pub fn adaptive_clear(
         singles: f.len(),
         doubles: w.len(),
     };
-    let j = judge(p, whole, vs, lens, regions, l);
-    match j {
-        Judged::Refused(n) => Answer::Refused(n),
-        Judged::Fit(g) => plan_fit(p, whole, g, vs, lens, regions, b, u, f, w, rows, triples),
+    match judge(p, whole, vs, lens, regions, l) {
+        Err(question) => Err(Refusal::No(question)),
+        Ok(g) => plan_fit(p, whole, g, vs, lens, regions, b, u, f, w, rows, triples),
     }
 }

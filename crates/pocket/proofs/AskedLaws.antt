@@ -1,5 +1,5 @@
 -- The first no of document 01's questions, and what it says where there is none: numbers, sides, a map. Assumes nothing.
-use mathlib.Core.Path.{◌≡◌, refl, ap, ◌∙◌}
+use mathlib.Core.Path.{◌≡◌, refl, ap, ◌∙◌, subst}
 use mathlib.Core.Bool.{Bool, true, false, ◌&&◌}
 use mathlib.Core.List.{List}
 use Prim.Native.Nat.{ℕ, ◌-◌, ◌*◌, ◌≤◌, ◌<◌}
@@ -14,16 +14,27 @@ use Rattle.raster.specs.Grid.{Sides, Over}
 use Rattle.raster.specs.Contact.{samples_of}
 use Rattle.raster.specs.declared.grid.Grid.{Grid}
 use Rattle.raster.proofs.GridLaws.{few-cells}
+use Rattle.std.specs.Prelude.{Result, Ok, Err}
+use Rattle.pocket.specs.declared.refusals.Refusal.{Refusal}
+use Rattle.pocket.specs.declared.refusals.Refusal.TheVariants.{OutOfRange, NoRegion, NoRaster, TooShort}
 use Rattle.pocket.specs.Ranges.{point_fit, grid_fit, sides_fit}
-use Rattle.pocket.specs.Refusals.{ask, size_refusal, map_refusal, cell_refusal}
+use Rattle.pocket.specs.Refusals.{Asked, ask, size_asked, map_asked, cell_asked}
 
 pub both_are : {a a' b b' : Bool} → a ≡ a' → b ≡ b' → a && b ≡ a' && b'
 both_are p q = λ t. p t && q t
 
+-- a refusal is no answer
+abbrev IsErr : Asked → Type 0
+IsErr (Ok u) = ⊥
+IsErr (Err why) = Unit
+
+pub not-ok : (why : Refusal) → ◌≡◌ {A = Asked} (Err why) (Ok tt) → ⊥
+not-ok why e = subst IsErr e tt
+
 -- no no: the first question is answered yes, and the rest has none
-pub ask-none : (n : ℕ) (b : Bool) (rest : ℕ) → 0 < n → ask n b rest ≡ 0 → (b ≡ true) × (rest ≡ 0)
-ask-none n true rest h e = (refl, e)
-ask-none n false rest h e = absurd (let z : ⊥ = omega arith in z)
+pub ask-none : (why : Refusal) (b : Bool) (rest : Asked) → ask why b rest ≡ Ok tt → (b ≡ true) × (rest ≡ Ok tt)
+ask-none why true rest e = (refl, e)
+ask-none why false rest e = absurd (not-ok why e)
 
 -- ---- sides
 
@@ -56,53 +67,53 @@ sides_are g h =
     record { wide = s.column; high = s.row; columns = s.wide; rows = s.high; cells = sides-few g.nx g.ny h }
 
 -- a grid that has no no
-pub cell-none : (g : Grid) (p : Vec2) → cell_refusal g p ≡ 0 → Sides g
-unfolding cell_refusal
+pub cell-none : (g : Grid) (p : Vec2) → cell_asked g p ≡ Ok tt → Sides g
+unfolding cell_asked
 cell-none g p e =
-    let a = ask-none 12 (grid_fit g && point_fit p) (ask 14 (sides_fit g.nx g.ny) 0) (omega arith) e in
-    sides_are g (ask-none 14 (sides_fit g.nx g.ny) 0 (omega arith) a.1).0
+    let a = ask-none OutOfRange (grid_fit g && point_fit p) (ask NoRaster (sides_fit g.nx g.ny) (Ok tt)) e in
+    sides_are g (ask-none NoRaster (sides_fit g.nx g.ny) (Ok tt) a.1).0
 
 -- ---- a map
 
 module _ (nx ny long : ℕ) where
-  pub size_odd : sides_fit nx ny ≡ false → 14 ≡ size_refusal nx ny long
-  unfolding size_refusal
+  pub size_odd : sides_fit nx ny ≡ false → Err NoRaster ≡ size_asked nx ny long
+  unfolding size_asked
   size_odd h = rw h
 
-  pub size_short : sides_fit nx ny ≡ true → long < ny * nx → 15 ≡ size_refusal nx ny long
-  unfolding size_refusal
+  pub size_short : sides_fit nx ny ≡ true → long < ny * nx → Err TooShort ≡ size_asked nx ny long
+  unfolding size_asked
   size_short h l = rw (h, lt-leb (ny * nx) long l)
 
-  pub size_fits : sides_fit nx ny ≡ true → ny * nx ≤ long → 0 ≡ size_refusal nx ny long
-  unfolding size_refusal
+  pub size_fits : sides_fit nx ny ≡ true → ny * nx ≤ long → Ok tt ≡ size_asked nx ny long
+  unfolding size_asked
   size_fits h l = rw (h, le-leb (ny * nx) long l)
 
-  pub size_none : size_refusal nx ny long ≡ 0 → (sides_fit nx ny ≡ true) × (ny * nx ≤ long)
-  unfolding size_refusal
+  pub size_none : size_asked nx ny long ≡ Ok tt → (sides_fit nx ny ≡ true) × (ny * nx ≤ long)
+  unfolding size_asked
   size_none e =
-      let s = ask-none 14 (sides_fit nx ny) (ask 15 (leb (ny * nx) long) 0) (omega arith) e in
-      (s.0, leb-true (ny * nx) long (ask-none 15 (leb (ny * nx) long) 0 (omega arith) s.1).0)
+      let s = ask-none NoRaster (sides_fit nx ny) (ask TooShort (leb (ny * nx) long) (Ok tt)) e in
+      (s.0, leb-true (ny * nx) long (ask-none TooShort (leb (ny * nx) long) (Ok tt) s.1).0)
 
-  pub map_odd : (b : Bool) → b ≡ false → 12 ≡ map_refusal b nx ny long
-  unfolding map_refusal
+  pub map_odd : (b : Bool) → b ≡ false → Err OutOfRange ≡ map_asked b nx ny long
+  unfolding map_asked
   map_odd b h = rw h
 
-  pub map-rest : (b : Bool) → b ≡ true → (n : ℕ) → n ≡ size_refusal nx ny long → n ≡ map_refusal b nx ny long
-  unfolding map_refusal
+  pub map-rest : (b : Bool) → b ≡ true → (n : Asked) → n ≡ size_asked nx ny long → n ≡ map_asked b nx ny long
+  unfolding map_asked
   map-rest b h n e = rw h e
 
-  pub map-none : (b : Bool) → map_refusal b nx ny long ≡ 0 → (b ≡ true) × (size_refusal nx ny long ≡ 0)
-  unfolding map_refusal
-  map-none b e = ask-none 12 b (size_refusal nx ny long) (omega arith) e
+  pub map-none : (b : Bool) → map_asked b nx ny long ≡ Ok tt → (b ≡ true) × (size_asked nx ny long ≡ Ok tt)
+  unfolding map_asked
+  map-none b e = ask-none OutOfRange b (size_asked nx ny long) e
 
 -- 12 is asked of what the tests come to
-pub map_by_lem : (b b' : Bool) (nx ny long n : ℕ) → b ≡ b' → n ≡ map_refusal b nx ny long → n ≡ map_refusal b' nx ny long
-map_by_lem b b' nx ny long n e h = h ∙ ap (λ (q : Bool). map_refusal q nx ny long) e
+pub map_by_lem : (b b' : Bool) (nx ny long : ℕ) (n : Asked) → b ≡ b' → n ≡ map_asked b nx ny long → n ≡ map_asked b' nx ny long
+map_by_lem b b' nx ny long n e h = h ∙ ap (λ (q : Bool). map_asked q nx ny long) e
 
-pub size_over : (g : Grid) (long : ℕ) → size_refusal g.nx g.ny long ≡ 0 → Over g long
+pub size_over : (g : Grid) (long : ℕ) → size_asked g.nx g.ny long ≡ Ok tt → Over g long
 size_over g long e = let s = size_none g.nx g.ny long e in record { sides = sides_are g s.0; long = s.1 }
 
-pub map-over : (b : Bool) (g : Grid) (long : ℕ) → map_refusal b g.nx g.ny long ≡ 0 → Over g long
+pub map-over : (b : Bool) (g : Grid) (long : ℕ) → map_asked b g.nx g.ny long ≡ Ok tt → Over g long
 map-over b g long e = size_over g long (map-none g.nx g.ny long b e).1
 
 -- a part from the start on, as the code lends it

@@ -16,11 +16,13 @@ use Rattle.geom.specs.declared.vec2.Vec2.{Vec2}
 use Rattle.raster.specs.Grid.{Sides, Over}
 use Rattle.raster.specs.Log.{Stock, st, Ready, clear_after}
 use Rattle.raster.specs.declared.grid.Grid.{Grid}
+use Rattle.std.specs.Prelude.{Result, Ok, Err}
+use Rattle.pocket.specs.declared.refusals.Refusal.{Refusal}
+use Rattle.pocket.specs.declared.refusals.Refusal.TheVariants.{OutOfRange, NoRegion, NoRaster, TooShort}
 use Rattle.pocket.specs.Ranges.{point_fit, grid_fit, disk_fit, sides_fit}
-use Rattle.pocket.specs.Refusals.{ask, size_refusal, map_refusal, room_fit, crescent_refusal}
+use Rattle.pocket.specs.Refusals.{Asked, ask, size_asked, map_asked, room_fit, crescent_asked}
 use Rattle.pocket.specs.Leaves.{on_log, clear_crescent_of}
-use Rattle.pocket.specs.declared.answers.Count.TheVariants as count
-use Rattle.pocket.proofs.AskedLaws.{ask-none, sides_are, front}
+use Rattle.pocket.proofs.AskedLaws.{not-ok, ask-none, sides_are, front}
 use Rattle.pocket.proofs.LeafLaws.{is-answered}
 
 and-false : (a : Bool) → false ≡ a && false
@@ -50,17 +52,17 @@ module _ (n : ℕ) (m : List ℕ) (long used : ℕ) where
   room-some h k e = ap (λ (b : Bool). leb n long && b) (same_leb k used long h ∙ ap (λ (z : ℕ). leb (used + z) long) (e ∙ ap ones (front n m)))
 
 -- the map's questions first; where they have no no, the room
-first_of : (b s l q : Bool) (k : ℕ) → k ≡ ask 12 b (ask 14 s (ask 15 l 0)) → (k ≡ 0 → ⊥) → k ≡ ask 12 b (ask 14 s (ask 15 (l && q) 0))
-first_of true true true q k e h = absurd (h e)
-first_of true true false q k e h = e
-first_of true false l q k e h = e
-first_of false s l q k e h = e
+first_of : (b s l q : Bool) (why : Refusal) → Err why ≡ ask OutOfRange b (ask NoRaster s (ask TooShort l (Ok tt))) → Err why ≡ ask OutOfRange b (ask NoRaster s (ask TooShort (l && q) (Ok tt)))
+first_of true true true q why e = absurd (not-ok why e)
+first_of true true false q why e = e
+first_of true false l q why e = e
+first_of false s l q why e = e
 
-rest_of : (b s l q : Bool) → ask 12 b (ask 14 s (ask 15 l 0)) ≡ 0 → ask 15 q 0 ≡ ask 12 b (ask 14 s (ask 15 (l && q) 0))
+rest_of : (b s l q : Bool) → ask OutOfRange b (ask NoRaster s (ask TooShort l (Ok tt))) ≡ Ok tt → ask TooShort q (Ok tt) ≡ ask OutOfRange b (ask NoRaster s (ask TooShort (l && q) (Ok tt)))
 rest_of true true true q e = refl
-rest_of true true false q e = absurd (let z : ⊥ = omega arith in z)
-rest_of true false l q e = absurd (let z : ⊥ = omega arith in z)
-rest_of false s l q e = absurd (let z : ⊥ = omega arith in z)
+rest_of true true false q e = absurd (not-ok TooShort e)
+rest_of true false l q e = absurd (not-ok NoRaster e)
+rest_of false s l q e = absurd (not-ok OutOfRange e)
 
 abbrev cells : Grid → ℕ
 cells g = g.ny * g.nx
@@ -69,30 +71,30 @@ module _ (g : Grid) (prev c : Vec2) (r : Float) (m : List ℕ) (long used : ℕ)
   abbrev fit : Bool
   fit = grid_fit g && (point_fit prev && disk_fit c r)
 
-  pub crescent-first : (k : ℕ) → k ≡ map_refusal fit g.nx g.ny (length m) → (k ≡ 0 → ⊥) → k ≡ crescent_refusal g prev c r m long used
-  unfolding crescent_refusal map_refusal size_refusal
-  crescent-first k e h = first_of fit (sides_fit g.nx g.ny) (leb (cells g) (length m)) (room_fit (cells g) m long used) k e h
+  pub crescent-first : (why : Refusal) → Err why ≡ map_asked fit g.nx g.ny (length m) → Err why ≡ crescent_asked g prev c r m long used
+  unfolding crescent_asked map_asked size_asked
+  crescent-first why e = first_of fit (sides_fit g.nx g.ny) (leb (cells g) (length m)) (room_fit (cells g) m long used) why e
 
-  crescent-rest : map_refusal fit g.nx g.ny (length m) ≡ 0 → ask 15 (room_fit (cells g) m long used) 0 ≡ crescent_refusal g prev c r m long used
-  unfolding crescent_refusal map_refusal size_refusal
+  crescent-rest : map_asked fit g.nx g.ny (length m) ≡ Ok tt → ask TooShort (room_fit (cells g) m long used) (Ok tt) ≡ crescent_asked g prev c r m long used
+  unfolding crescent_asked map_asked size_asked
   crescent-rest e = rest_of fit (sides_fit g.nx g.ny) (leb (cells g) (length m)) (room_fit (cells g) m long used) e
 
-  pub crescent-full : map_refusal fit g.nx g.ny (length m) ≡ 0 → room_fit (cells g) m long used ≡ false → 15 ≡ crescent_refusal g prev c r m long used
-  crescent-full e h = sym (ap (λ (q : Bool). ask 15 q 0) h) ∙ crescent-rest e
+  pub crescent-full : map_asked fit g.nx g.ny (length m) ≡ Ok tt → room_fit (cells g) m long used ≡ false → Err TooShort ≡ crescent_asked g prev c r m long used
+  crescent-full e h = sym (ap (λ (q : Bool). ask TooShort q (Ok tt)) h) ∙ crescent-rest e
 
-  pub crescent-fits : map_refusal fit g.nx g.ny (length m) ≡ 0 → room_fit (cells g) m long used ≡ true → 0 ≡ crescent_refusal g prev c r m long used
-  crescent-fits e h = sym (ap (λ (q : Bool). ask 15 q 0) h) ∙ crescent-rest e
+  pub crescent-fits : map_asked fit g.nx g.ny (length m) ≡ Ok tt → room_fit (cells g) m long used ≡ true → Ok tt ≡ crescent_asked g prev c r m long used
+  crescent-fits e h = sym (ap (λ (q : Bool). ask TooShort q (Ok tt)) h) ∙ crescent-rest e
 
-  module _ (e : crescent_refusal g prev c r m long used ≡ 0) where
+  module _ (e : crescent_asked g prev c r m long used ≡ Ok tt) where
     abbrev lent : Bool
     lent = leb (cells g) (length m) && room_fit (cells g) m long used
 
     questions : (sides_fit g.nx g.ny ≡ true) × (lent ≡ true)
-    unfolding crescent_refusal
+    unfolding crescent_asked
     questions =
-        let a = ask-none 12 fit (ask 14 (sides_fit g.nx g.ny) (ask 15 lent 0)) (omega arith) e in
-        let b = ask-none 14 (sides_fit g.nx g.ny) (ask 15 lent 0) (omega arith) a.1 in
-        (b.0, (ask-none 15 lent 0 (omega arith) b.1).0)
+        let a = ask-none OutOfRange fit (ask NoRaster (sides_fit g.nx g.ny) (ask TooShort lent (Ok tt))) e in
+        let b = ask-none NoRaster (sides_fit g.nx g.ny) (ask TooShort lent (Ok tt)) a.1 in
+        (b.0, (ask-none TooShort lent (Ok tt) b.1).0)
 
     pub crescent-sides : Sides g
     crescent-sides = sides_are g questions.0
@@ -112,7 +114,7 @@ module _ (g : Grid) (prev c : Vec2) (r : Float) (m l : List ℕ) (used : ℕ) wh
   abbrev part : List ℕ
   part = take ((cells g) - 0) (drop 0 m)
 
-  pub crescent-ready : crescent_refusal g prev c r m (length l) used ≡ 0 → Over g (length part) × Ready (st part l used)
+  pub crescent-ready : crescent_asked g prev c r m (length l) used ≡ Ok tt → Over g (length part) × Ready (st part l used)
   crescent-ready e =
       let sides = crescent-sides g prev c r m (length l) used e in
       let few = sides.cells in
@@ -121,10 +123,10 @@ module _ (g : Grid) (prev c : Vec2) (r : Float) (m l : List ℕ) (used : ℕ) wh
       subst (λ (w : List ℕ). Over g (length w) × Ready (st w l used)) (sym (front (cells g) m))
       (record { sides = sides; long = omega (arith, whole) }, record { room = crescent-room g prev c r m (length l) used e; small = omega (arith, whole) })
 
-  pub crescent-done : (n : ℕ) → n ≡ crescent_refusal g prev c r m (length l) used → n ≡ 0 → (k : ℕ) (m' l' : List ℕ) → st m' l' k ≡ clear_after g prev c r (st part l used)
-      → on_log (count.Of k) (m' ++ post_of 0 ((cells g) - 0) m) l' ≡ clear_crescent_of g prev c r used m l
+  pub crescent-done : (n : Asked) → n ≡ crescent_asked g prev c r m (length l) used → n ≡ Ok tt → (k : ℕ) (m' l' : List ℕ) → st m' l' k ≡ clear_after g prev c r (st part l used)
+      → on_log (Ok k) (m' ++ post_of 0 ((cells g) - 0) m) l' ≡ clear_crescent_of g prev c r used m l
   unfolding clear_crescent_of
   crescent-done n e h k m' l' E =
-      is-answered (λ z. on_log (count.Refused z) m l) n _ e h _ _
-      (ap (λ (w : List ℕ). on_log (count.Of k) (m' ++ w) l') (Post-is 0 (cells g) m (omega arith))
-      ∙ ap (λ (t : Stock). on_log (count.Of t.count) (t.cells ++ drop (cells g) m) t.log) (E ∙ ap (λ (w : List ℕ). clear_after g prev c r (st w l used)) (front (cells g) m)))
+      is-answered (λ z. on_log (Err z) m l) n _ e h _ _
+      (ap (λ (w : List ℕ). on_log (Ok k) (m' ++ w) l') (Post-is 0 (cells g) m (omega arith))
+      ∙ ap (λ (t : Stock). on_log (Ok t.count) (t.cells ++ drop (cells g) m) t.log) (E ∙ ap (λ (w : List ℕ). clear_after g prev c r (st w l used)) (front (cells g) m)))

@@ -13,12 +13,14 @@ use Rattle.distance.specs.Least.{MapSides}
 use Rattle.distance.specs.Nearest.{listed, transform_of}
 use Rattle.distance.specs.Rooted.{rooted_of, distances_of, distance_transform}
 use Rattle.distance.proofs.NearestLaws.{transform_at}
+use Rattle.std.specs.Prelude.{Result, Ok, Err}
+use Rattle.pocket.specs.declared.refusals.Refusal.{Refusal}
+use Rattle.pocket.specs.declared.refusals.Refusal.TheVariants.{OutOfRange, NoRegion, NoRaster, TooShort}
 use Rattle.pocket.specs.Ranges.{sides_fit}
-use Rattle.pocket.specs.Refusals.{ask, far_refusal}
+use Rattle.pocket.specs.Refusals.{Asked, number_of, ask, far_asked}
 use Rattle.pocket.specs.Leaves.{unless, OnFar, on_far, distance_map_of}
+use Rattle.std.specs.Prelude.{OnOk}
 use Rattle.pocket.specs.Answers.{of_done}
-use Rattle.pocket.specs.declared.answers.Done.{Done}
-use Rattle.pocket.specs.declared.answers.Done.TheVariants as done
 use Rattle.pocket.proofs.AskedLaws.{ask-none, sides-few, map-sides}
 
 pub record FarRoom (nx ny marks squares distances : ℕ) : Type 0 where
@@ -28,13 +30,13 @@ pub record FarRoom (nx ny marks squares distances : ℕ) : Type 0 where
   pub squared : ny * nx + 3 * nx ≤ squares
   pub rooted : ny * nx ≤ distances
 
-pub far-room : (nx ny marks squares distances : ℕ) → far_refusal nx ny marks squares distances ≡ 0 → FarRoom nx ny marks squares distances
-unfolding far_refusal
+pub far-room : (nx ny marks squares distances : ℕ) → far_asked nx ny marks squares distances ≡ Ok tt → FarRoom nx ny marks squares distances
+unfolding far_asked
 far-room nx ny marks squares distances e =
     let n : ℕ = ny * nx in
     let outer : Bool = leb n marks && (leb (n + 3 * nx) squares && leb n distances) in
-    let a = ask-none 14 (sides_fit nx ny) (ask 15 outer 0) (omega arith) e in
-    let b = both (leb n marks) (leb (n + 3 * nx) squares && leb n distances) (ask-none 15 outer 0 (omega arith) a.1).0 in
+    let a = ask-none NoRaster (sides_fit nx ny) (ask TooShort outer (Ok tt)) e in
+    let b = both (leb n marks) (leb (n + 3 * nx) squares && leb n distances) (ask-none TooShort outer (Ok tt) a.1).0 in
     let d = both (leb (n + 3 * nx) squares) (leb n distances) b.1 in
     record {
       sides = map-sides nx ny a.0;
@@ -55,25 +57,19 @@ unfolding distances_of distance_transform
 distances_are mark m nx ny q d = ap (λ (l : List Float). l ++ drop (ny * nx) d) (listed_same _ _ (ny * nx) (λ k b. ap rooted_of (transform_at mark m nx ny q k b)))
 
 pub far-done : (mark : ℕ) (m : List ℕ) (nx ny : ℕ) (q q' : List ℕ) (d d' : List Float) → q' ≡ transform_of mark m nx ny q → d' ≡ distances_of (ny * nx) q' d
-    → on_far done.Finished q' d' ≡ on_far done.Finished (transform_of mark m nx ny q) (distance_transform mark m nx ny ++ drop (ny * nx) d)
+    → on_far {A = Asked} (Ok tt) q' d' ≡ on_far {A = Asked} (Ok tt) (transform_of mark m nx ny q) (distance_transform mark m nx ny ++ drop (ny * nx) d)
 far-done mark m nx ny q q' d d' e h =
-    ap (λ (l : List Float). on_far done.Finished q' l) (h ∙ ap (λ (w : List ℕ). distances_of (ny * nx) w d) e ∙ distances_are mark m nx ny q d)
-    ∙ ap (λ (w : List ℕ). on_far done.Finished w (distance_transform mark m nx ny ++ drop (ny * nx) d)) e
-
-pub refused_not : (n : ℕ) → done.Refused n ≡ done.Finished → ⊥
-refused_not n e = let z : ◌≡◌ {A = ℕ} 0 1 = cc in omega arith
+    ap (λ (l : List Float). on_far {A = Asked} (Ok tt) q' l) (h ∙ ap (λ (w : List ℕ). distances_of (ny * nx) w d) e ∙ distances_are mark m nx ny q d)
+    ∙ ap (λ (w : List ℕ). on_far {A = Asked} (Ok tt) w (distance_transform mark m nx ny ++ drop (ny * nx) d)) e
 
 -- only what was finished is told as 0
-module _ (n : ℕ) (q s : List ℕ) (d t : List Float) where
-  abbrev far : OnFar Done
-  far = unless n (λ k. on_far (done.Refused k) q d) (on_far done.Finished s t)
+number-told : (why : Refusal) → number_of why ≡ 0 → ⊥
+number-told OutOfRange e = let z : ⊥ = omega arith in z
+number-told NoRegion e = let z : ⊥ = omega arith in z
+number-told NoRaster e = let z : ⊥ = omega arith in z
+number-told TooShort e = let z : ⊥ = omega arith in z
 
-  far_finished : of_done far.answer ≡ 0 → far.answer ≡ done.Finished
-  unfolding of_done
-  far_finished e = by_cases (eqb n 0) (λ b. rw b) (λ b. absurd (eqb-false n 0 b (rw b at e)))
-
-pub map_finished : (nx ny : ℕ) (m : List ℕ) (mark : ℕ) (q q' : List ℕ) (d d' : List Float) (a : Done) (x : ℕ) → on_far a q' d' ≡ distance_map_of nx ny m mark q d → x ≡ of_done a → x ≡ 0 → a ≡ done.Finished
-unfolding distance_map_of
-map_finished nx ny m mark q q' d d' a x e told z =
-    let is = ap (λ (o : OnFar Done). o.answer) e in
-    is ∙ far_finished (far_refusal nx ny (length m) (length q) (length d)) q (transform_of mark m nx ny q) d (distance_transform mark m nx ny ++ drop (ny * nx) d) (sym (ap of_done is) ∙ sym told ∙ z)
+pub far_finished : (a : Result Unit Refusal) (P : Type 0) (x : ℕ) → OnOk a P → x ≡ of_done a → x ≡ 0 → P
+unfolding of_done
+far_finished (Ok u) P x h told z = h
+far_finished (Err why) P x h told z = absurd (number-told why (sym told ∙ z))

@@ -12,10 +12,11 @@ use Rattle.geom.specs.declared.vec2.Vec2.{Vec2}
 use Rattle.raster.specs.Log.{Stock, st, taken, clear_after}
 use Rattle.raster.specs.declared.grid.Grid.{Grid}
 use Rattle.raster.proofs.LogLaws.{cell_cases, keep-after}
-use Rattle.pocket.specs.Refusals.{crescent_refusal}
+use Rattle.std.specs.Prelude.{Result, Ok, Err}
+use Rattle.pocket.specs.declared.refusals.Refusal.{Refusal}
+use Rattle.pocket.specs.declared.refusals.Refusal.TheVariants.{OutOfRange, NoRegion, NoRaster, TooShort}
+use Rattle.pocket.specs.Refusals.{Asked, crescent_asked}
 use Rattle.pocket.specs.Leaves.{unless, OnLog, on_log, clear_crescent_of}
-use Rattle.pocket.specs.declared.answers.Count.{Count}
-use Rattle.pocket.specs.declared.answers.Count.TheVariants.{Refused, Of}
 
 -- a log l with `used` entries becomes l' with n
 pub record LogKept (used : ℕ) (l : List ℕ) (n : ℕ) (l' : List ℕ) : Type 0 where
@@ -39,20 +40,18 @@ after_keeps g prev c r s =
     (record { more = omega arith; before = λ k b. refl; beyond = λ k b. refl })
 
 -- where the leaf's answer is a count, it is that of the log that was written
-module _ (no k n : ℕ) (m m' l l' : List ℕ) where
-  abbrev told : OnLog Count
-  told = unless no (λ z. on_log (Refused z) m l) (on_log (Of k) m' l')
+module _ (k n : ℕ) (m m' l l' : List ℕ) where
+  abbrev told : Asked → OnLog (Result ℕ Refusal)
+  told why = unless why (λ z. on_log (Err z) m l) (on_log (Ok k) m' l')
 
-  counted : told.answer ≡ Of n → (k ≡ n) × (told.log ≡ l')
-  counted e =
-      by_cases (eqb no 0)
-      (λ b. let f : Of k ≡ Of n = rw b at e in ((cc), rw b))
-      (λ b. let f : Refused no ≡ Of n = rw b at e in let z : ◌≡◌ {A = ℕ} 0 1 = cc in absurd (let w : ⊥ = omega arith in w))
+  counted : (why : Asked) → (told why).answer ≡ Ok n → (k ≡ n) × ((told why).log ≡ l')
+  counted (Ok u) e = (cc, refl)
+  counted (Err z) e = absurd (cc)
 
-pub crescent-log : (g : Grid) (prev c : Vec2) (r : Float) (used : ℕ) (m l : List ℕ) (n : ℕ) → (clear_crescent_of g prev c r used m l).answer ≡ Of n → LogKept used l n (clear_crescent_of g prev c r used m l).log
+pub crescent-log : (g : Grid) (prev c : Vec2) (r : Float) (used : ℕ) (m l : List ℕ) (n : ℕ) → (clear_crescent_of g prev c r used m l).answer ≡ Ok n → LogKept used l n (clear_crescent_of g prev c r used m l).log
 unfolding clear_crescent_of
 crescent-log g prev c r used m l n e =
     let s : Stock = clear_after g prev c r (st (take (g.ny * g.nx) m) l used) in
-    let w = counted (crescent_refusal g prev c r m (length l) used) s.count n m (s.cells ++ drop (g.ny * g.nx) m) l s.log e in
+    let w = counted s.count n m (s.cells ++ drop (g.ny * g.nx) m) l s.log (crescent_asked g prev c r m (length l) used) e in
     subst (λ (x : List ℕ). LogKept used l n x) (sym w.1)
     (subst (λ (k : ℕ). LogKept used l k s.log) w.0 (after_keeps g prev c r (st (take (g.ny * g.nx) m) l used)))

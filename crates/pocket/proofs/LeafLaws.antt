@@ -5,6 +5,9 @@ use mathlib.Core.List.{List}
 use Prim.Native.Nat.{ℕ}
 use lib.Ieee.{Float}
 use borrow.Author.Tests.{eq-eqb, ne_eqb}
+use Rattle.std.specs.Prelude.{Ok, Err}
+use Rattle.pocket.specs.Refusals.{Asked}
+use Rattle.pocket.specs.declared.refusals.Refusal.{Refusal}
 use Rattle.pocket.specs.Leaves.{unless, OnMap, on_map, told_map, OnLog, on_log, told_log, OnFar, on_far, told_far}
 
 -- by one test
@@ -15,13 +18,13 @@ module _ {A : Type 0} (b want : Bool) (e : b ≡ want) where
   pub when_not : b ≡ false → (x y : A) → y ≡ cond want x y
   when_not h x y = sym (ap (λ (q : Bool). cond q x y) (sym e ∙ h))
 
--- by the number of the first no
-module _ {A : Type 0} (refused : ℕ → A) (n want : ℕ) (e : n ≡ want) where
-  pub is-refused : (n ≡ 0 → ⊥) → (x : A) → refused n ≡ unless want refused x
-  is-refused h x = sym (ap (λ (k : ℕ). unless k refused x) (sym e) ∙ ap (λ (q : Bool). cond q x (refused n)) (ne_eqb n 0 h))
+-- by the first no
+module _ {A : Type 0} (refused : Refusal → A) (n want : Asked) (e : n ≡ want) where
+  pub is-refused : (why : Refusal) → n ≡ Err why → (x : A) → refused why ≡ unless want refused x
+  is-refused why h x = sym (ap (λ (k : Asked). unless k refused x) (sym e ∙ h))
 
-  pub is-answered : n ≡ 0 → (x z : A) → z ≡ x → z ≡ unless want refused x
-  is-answered h x z i = i ∙ sym (ap (λ (k : ℕ). unless k refused x) (sym e) ∙ ap (λ (q : Bool). cond q x (refused n)) (eq-eqb n 0 h))
+  pub is-answered : n ≡ Ok tt → (x z : A) → z ≡ x → z ≡ unless want refused x
+  is-answered h x z i = i ∙ sym (ap (λ (k : Asked). unless k refused x) (sym e ∙ h))
 
 -- ---- an answer told to C
 

@@ -6,21 +6,21 @@ use Prim.Native.Nat.{ℕ}
 use lib.Ieee.{Float}
 use Rattle.entry.specs.declared.params.AdaptiveParams.{AdaptiveParams}
 use Rattle.report.specs.Zero.{Lent}
-use Rattle.planner.specs.Planner.{Job, job, Outcome, outcome, outcome_of}
+use Rattle.planner.specs.Planner.{Job, job, Answer, refusal_number, Outcome, outcome, outcome_of}
 use Rattle.planner.specs.Answered.{AnswerTold}
-use Rattle.planner.specs.declared.outcome.Answer.{Answer}
-use Rattle.planner.specs.declared.outcome.Answer.TheVariants.{Refused, Accepted}
+use Rattle.planner.specs.declared.outcome.Refusal.{Refusal}
+use Rattle.std.specs.Prelude.{Ok, Err}
 use Rattle.report.specs.declared.report.AdaptiveReport.{AdaptiveReport}
 use Rattle.pocket.specs.Plan.{no_report, answered, of_answer, told, told_of}
 use Rattle.pocket.specs.declared.adaptive.PocketAnswer.{PocketAnswer}
 
-pub accepted_is : (a : Answer) (r : AdaptiveReport) → a ≡ Accepted r → answered 0 r ≡ of_answer a
+pub accepted_is : (a : Answer) (r : AdaptiveReport) → a ≡ Ok r → answered 0 r ≡ of_answer a
 unfolding of_answer
 accepted_is a r e = subst (λ (x : Answer). answered 0 r ≡ of_answer x) (sym e) refl
 
-pub refused-is : (a : Answer) (n : ℕ) (r : AdaptiveReport) → a ≡ Refused n → r ≡ no_report → answered n r ≡ of_answer a
+pub refused-is : (a : Answer) (k : Refusal) (n : ℕ) (r : AdaptiveReport) → a ≡ Err k → n ≡ refusal_number k → r ≡ no_report → answered n r ≡ of_answer a
 unfolding of_answer
-refused-is a n r e f = subst (λ (x : Answer). answered n r ≡ of_answer x) (sym e) (subst (λ (x : AdaptiveReport). answered n x ≡ answered n no_report) (sym f) refl)
+refused-is a k n r e N f = rw (e, N, f) refl
 
 -- the parameters q are those that were made of C's, p
 module _ (q p : AdaptiveParams) (Q : q ≡ p) (whole : Bool) (vs : List Float) (lens regions : List ℕ) (was left : Lent) (a : Answer) where

@@ -14,10 +14,12 @@ use Rattle.raster.specs.Contact.{samples_of, rim_contact}
 use Rattle.raster.specs.declared.contact.Contact.{Contact}
 use Rattle.raster.specs.declared.grid.Grid.{Grid}
 use Rattle.raster.proofs.ContactLaws.{contact-most, contact-least}
+use Rattle.std.specs.Prelude.{Result, Ok, Err}
+use Rattle.pocket.specs.declared.refusals.Refusal.{Refusal}
+use Rattle.pocket.specs.declared.refusals.Refusal.TheVariants.{OutOfRange, NoRegion, NoRaster, TooShort}
 use Rattle.pocket.specs.Ranges.{samples_fit, contact_fit, grid_fit, disk_fit}
-use Rattle.pocket.specs.Refusals.{contact_refusal}
-use Rattle.pocket.specs.Leaves.{contact_of, contact_angle_of, Angled}
-use Rattle.pocket.specs.declared.answers.Rim.TheVariants.{Refused, Of}
+use Rattle.pocket.specs.Refusals.{Asked, contact_asked}
+use Rattle.pocket.specs.Leaves.{unless, contact_of, contact_angle_of, Angled}
 use Rattle.pocket.proofs.AskedLaws.{map-none}
 
 module _ (g : Grid) (m : List ℕ) (c : Vec2) (r : Float) (samples : ℕ) where
@@ -32,7 +34,7 @@ module _ (g : Grid) (m : List ℕ) (c : Vec2) (r : Float) (samples : ℕ) where
   unfolding contact_fit
   fits h = rw (le-leb _ _ (contact-most g m c r samples), le-leb _ _ (contact-least g m c r samples), le-leb _ _ (few h)) refl
 
-  asked : contact_refusal g c r samples (length m) ≡ 0 → samples ≤ 4096
+  asked : contact_asked g c r samples (length m) ≡ Ok tt → samples ≤ 4096
   asked e =
       let numbers = (map-none g.nx g.ny (length m) (grid_fit g && (disk_fit c r && samples_fit samples)) e).0 in
       let rest = (both (grid_fit g) (disk_fit c r && samples_fit samples) numbers).1 in
@@ -40,8 +42,8 @@ module _ (g : Grid) (m : List ℕ) (c : Vec2) (r : Float) (samples : ℕ) where
 
   pub contact_angled : Angled (contact_of g m c r samples)
   unfolding contact_of contact_angle_of
-  contact_angled =
-      let no = contact_refusal g c r samples (length m) in
-      by_test Angled (eqb no 0) (Of counted) (Refused no)
-      (λ t. rw (fits (asked (eqb-true no 0 t))) refl)
-      (λ t. tt)
+  contact_angled = angled (contact_asked g c r samples (length m)) refl
+    where
+      angled : (why : Asked) → contact_asked g c r samples (length m) ≡ why → Angled (unless why Err (Ok counted))
+      angled (Ok u) e = rw (fits (asked e)) refl
+      angled (Err why) e = tt

@@ -15,8 +15,11 @@ use Rattle.raster.specs.declared.grid.Grid.{Grid}
 use Rattle.entry.specs.Regions.{sum_to, sum_of, AllHeld}
 use Rattle.entry.specs.Questions.{all_from, vertices_fit}
 use Rattle.entry.proofs.RegionsLaws.{sum-none, sum_more, pocket_is, held-is, all_held}
+use Rattle.std.specs.Prelude.{Result, Ok, Err}
+use Rattle.pocket.specs.declared.refusals.Refusal.{Refusal}
+use Rattle.pocket.specs.declared.refusals.Refusal.TheVariants.{OutOfRange, NoRegion, NoRaster, TooShort}
 use Rattle.pocket.specs.Ranges.{coordinates_fit, grid_fit}
-use Rattle.pocket.specs.Refusals.{ask, size_refusal, shape_fit, fill_refusal}
+use Rattle.pocket.specs.Refusals.{ask, size_asked, shape_fit, fill_asked}
 use Rattle.pocket.specs.Leaves.{one_region}
 use Rattle.pocket.proofs.AskedLaws.{ask-none, size_over}
 
@@ -61,9 +64,9 @@ module _ (vs : List Float) (lens : List ℕ) (h : shape_fit vs lens ≡ true) wh
   pub shape_held : Held vs lens (one_region lens)
   shape_held = held-is vs lens one shape_all 0 (omega arith) (one_region lens) (pocket_is lens one)
 
-pub fill_none : (g : Grid) (vs : List Float) (lens : List ℕ) (long : ℕ) → fill_refusal g vs lens long ≡ 0 → (shape_fit vs lens ≡ true) × Over g long
-unfolding fill_refusal
+pub fill_none : (g : Grid) (vs : List Float) (lens : List ℕ) (long : ℕ) → fill_asked g vs lens long ≡ Ok tt → (shape_fit vs lens ≡ true) × Over g long
+unfolding fill_asked
 fill_none g vs lens long e =
-    let a = ask-none 12 (grid_fit g && coordinates_fit vs) (ask 13 (shape_fit vs lens) (size_refusal g.nx g.ny long)) (omega arith) e in
-    let b = ask-none 13 (shape_fit vs lens) (size_refusal g.nx g.ny long) (omega arith) a.1 in
+    let a = ask-none OutOfRange (grid_fit g && coordinates_fit vs) (ask NoRegion (shape_fit vs lens) (size_asked g.nx g.ny long)) e in
+    let b = ask-none NoRegion (shape_fit vs lens) (size_asked g.nx g.ny long) a.1 in
     (b.0, size_over g long b.1)

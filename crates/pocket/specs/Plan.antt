@@ -1,20 +1,16 @@
 -- The planner as C has it: parameters and answer as structs without an enum. Definitions only.
-use Rattle.std.specs.Prelude.{ℕ, false, cond}
+use Rattle.std.specs.Prelude.{ℕ, false, cond, Option, None, Some, Ok, Err, Float}
 use Rattle.geom.specs.Vec.{f0}
 use Rattle.entry.specs.declared.params.AdaptiveParams.{AdaptiveParams}
-use Rattle.entry.specs.declared.params.Setting.{Setting}
-use Rattle.entry.specs.declared.params.Setting.TheVariants.{Absent, Given}
 use Rattle.report.specs.declared.report.AdaptiveReport.{AdaptiveReport}
 use Rattle.report.specs.Zero.{Lent}
-use Rattle.planner.specs.Planner.{Outcome}
-use Rattle.planner.specs.declared.outcome.Answer.{Answer}
-use Rattle.planner.specs.declared.outcome.Answer.TheVariants.{Refused, Accepted}
+use Rattle.planner.specs.Planner.{Answer, refusal_number, Outcome}
 use Rattle.pocket.specs.declared.adaptive.PocketSetting.{PocketSetting}
 use Rattle.pocket.specs.declared.adaptive.PocketParams.{PocketParams}
 use Rattle.pocket.specs.declared.adaptive.PocketAnswer.{PocketAnswer}
 
-unfoldable pub setting_of : PocketSetting → Setting
-setting_of s = cond s.given (Given s.value) Absent
+unfoldable pub setting_of : PocketSetting → Option Float
+setting_of s = cond s.given (Some s.value) None
 
 unfoldable pub params_of : PocketParams → AdaptiveParams
 params_of p = record {
@@ -59,8 +55,8 @@ answered n r = record { refused = n; report = r }
 
 -- document 01's number, or 0 and the report
 unfoldable pub of_answer : Answer → PocketAnswer
-of_answer (Refused n) = answered n no_report
-of_answer (Accepted r) = answered 0 r
+of_answer (Err k) = answered (refusal_number k) no_report
+of_answer (Ok r) = answered 0 r
 
 -- what comes back: the six lent slices, and the answer
 pub record Told : Type 0 where

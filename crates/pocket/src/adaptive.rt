@@ -6,8 +6,8 @@ ghost use Rattle.planner.specs.Planner.{job, outcome_of};
 ghost use Rattle.planner.specs.Answered.{AnswerTold};
 ghost use Rattle.pocket.specs.Plan.{setting_of, params_of, no_report, of_answer, told, told_of};
 
-use entry::params::{AdaptiveParams, Setting};
-use planner::outcome::{Answer, adaptive_clear};
+use entry::params::AdaptiveParams;
+use planner::outcome::{Refusal, adaptive_clear};
 use report::report::AdaptiveReport;
 
 #[repr(C)]
@@ -45,13 +45,13 @@ pub struct PocketAnswer {
     pub report: AdaptiveReport,
 }
 
-fn setting(s: PocketSetting) -> Setting
+fn setting(s: PocketSetting) -> Option<f64>
     ensures { result ≡ setting_of s }
 {
     if s.given {
-        return Setting::Given(s.value);
+        return Some(s.value);
     }
-    Setting::Absent
+    None
 }
 
 fn params_of(p: PocketParams) -> AdaptiveParams
@@ -100,15 +100,15 @@ fn no_report() -> AdaptiveReport
     }
 }
 
-fn of_answer(a: Answer) -> PocketAnswer
+fn of_answer(a: Result<AdaptiveReport, Refusal>) -> PocketAnswer
     ensures { result ≡ of_answer a }
 {
     match a {
-        Answer::Accepted(report) => PocketAnswer { refused: 0, report },
-        Answer::Refused(n) => {
-            let report = no_report();
-            PocketAnswer { refused: n, report }
-        }
+        Ok(report) => PocketAnswer { refused: 0, report },
+        Err(refusal) => PocketAnswer {
+            refused: refusal.into(),
+            report: no_report(),
+        },
     }
 }
 

@@ -1,48 +1,9 @@
-// What a leaf answers, and the same as C has it: `refused` is 0 where there is an answer, and all else is 0 where
-// there is none.
+// What a leaf answers, as C has it: `refused` is 0 where there is an answer, and all else is 0 where there is none.
 ghost use Rattle.std.specs.Prelude.{◌≡◌};
-ghost use Rattle.pocket.specs.Answers.{of_count, of_number, of_single, of_rim, of_cell, of_done};
+ghost use Rattle.pocket.specs.Answers.{of_cell, of_count, of_done, of_number, of_rim, of_single};
 
+use super::refusals::Refusal;
 use raster::contact::Contact;
-
-#[derive(Clone, Copy)]
-pub enum Count {
-    Refused(u32),
-    Of(usize),
-}
-
-#[derive(Clone, Copy)]
-pub enum Number {
-    Refused(u32),
-    Of(f64),
-}
-
-#[derive(Clone, Copy)]
-pub enum Single {
-    Refused(u32),
-    Of(f32),
-}
-
-// Points of a tool's rim, hit and sampled.
-#[derive(Clone, Copy)]
-pub enum Rim {
-    Refused(u32),
-    Of(Contact),
-}
-
-// Column and row of a cell; nothing off the grid.
-#[derive(Clone, Copy)]
-pub enum Cell {
-    Refused(u32),
-    Nothing,
-    At(usize, usize),
-}
-
-#[derive(Clone, Copy)]
-pub enum Done {
-    Refused(u32),
-    Finished,
-}
 
 #[repr(C)]
 #[derive(Clone, Copy)]
@@ -82,98 +43,104 @@ pub struct PocketCell {
     pub row: usize,
 }
 
-pub fn of_count(a: Count) -> PocketCount
-    ensures { result ≡ of_count a }
-{
-    match a {
-        Count::Refused(no) => PocketCount {
-            refused: no,
-            count: 0,
-        },
-        Count::Of(n) => PocketCount {
-            refused: 0,
-            count: n,
-        },
+impl From<Result<usize, Refusal>> for PocketCount {
+    ghost from_gives = { λ a r. r ≡ of_count a };
+
+    fn from(a: Result<usize, Refusal>) -> PocketCount {
+        match a {
+            Ok(count) => PocketCount { refused: 0, count },
+            Err(no) => PocketCount {
+                refused: no.into(),
+                count: 0,
+            },
+        }
     }
 }
 
-pub fn of_number(a: Number) -> PocketNumber
-    ensures { result ≡ of_number a }
-{
-    match a {
-        Number::Refused(no) => PocketNumber {
-            refused: no,
-            value: 0.0,
-        },
-        Number::Of(x) => PocketNumber {
-            refused: 0,
-            value: x,
-        },
+impl From<Result<f64, Refusal>> for PocketNumber {
+    ghost from_gives = { λ a r. r ≡ of_number a };
+
+    fn from(a: Result<f64, Refusal>) -> PocketNumber {
+        match a {
+            Ok(value) => PocketNumber { refused: 0, value },
+            Err(no) => PocketNumber {
+                refused: no.into(),
+                value: 0.0,
+            },
+        }
     }
 }
 
-pub fn of_single(a: Single) -> PocketSingle
-    ensures { result ≡ of_single a }
-{
-    match a {
-        Single::Refused(no) => PocketSingle {
-            refused: no,
-            value: 0.0,
-        },
-        Single::Of(y) => PocketSingle {
-            refused: 0,
-            value: y,
-        },
+impl From<Result<f32, Refusal>> for PocketSingle {
+    ghost from_gives = { λ a r. r ≡ of_single a };
+
+    fn from(a: Result<f32, Refusal>) -> PocketSingle {
+        match a {
+            Ok(value) => PocketSingle { refused: 0, value },
+            Err(no) => PocketSingle {
+                refused: no.into(),
+                value: 0.0,
+            },
+        }
     }
 }
 
-pub fn of_rim(a: Rim) -> PocketRim
-    ensures { result ≡ of_rim a }
-{
-    match a {
-        Rim::Refused(no) => PocketRim {
-            refused: no,
-            hits: 0,
-            samples: 0,
-        },
-        Rim::Of(t) => PocketRim {
-            refused: 0,
-            hits: t.hits,
-            samples: t.samples,
-        },
+// Points of a tool's rim, hit and sampled.
+impl From<Result<Contact, Refusal>> for PocketRim {
+    ghost from_gives = { λ a r. r ≡ of_rim a };
+
+    fn from(a: Result<Contact, Refusal>) -> PocketRim {
+        match a {
+            Ok(t) => PocketRim {
+                refused: 0,
+                hits: t.hits,
+                samples: t.samples,
+            },
+            Err(no) => PocketRim {
+                refused: no.into(),
+                hits: 0,
+                samples: 0,
+            },
+        }
     }
 }
 
-pub fn of_cell(a: Cell) -> PocketCell
-    ensures { result ≡ of_cell a }
-{
-    match a {
-        Cell::Refused(no) => PocketCell {
-            refused: no,
-            found: false,
-            column: 0,
-            row: 0,
-        },
-        Cell::Nothing => PocketCell {
-            refused: 0,
-            found: false,
-            column: 0,
-            row: 0,
-        },
-        Cell::At(i, j) => PocketCell {
-            refused: 0,
-            found: true,
-            column: i,
-            row: j,
-        },
+// Column and row of a cell; none off the grid.
+impl From<Result<Option<(usize, usize)>, Refusal>> for PocketCell {
+    ghost from_gives = { λ a r. r ≡ of_cell a };
+
+    fn from(a: Result<Option<(usize, usize)>, Refusal>) -> PocketCell {
+        match a {
+            Ok(cell) => match cell {
+                Some((column, row)) => PocketCell {
+                    refused: 0,
+                    found: true,
+                    column,
+                    row,
+                },
+                None => PocketCell {
+                    refused: 0,
+                    found: false,
+                    column: 0,
+                    row: 0,
+                },
+            },
+            Err(no) => PocketCell {
+                refused: no.into(),
+                found: false,
+                column: 0,
+                row: 0,
+            },
+        }
     }
 }
 
-pub fn of_done(a: Done) -> u32
+// The number of a refusal; 0 where there is none.
+pub fn of_done(a: Result<(), Refusal>) -> u32
     ensures { result ≡ of_done a }
 {
     match a {
-        Done::Refused(no) => no,
-        Done::Finished => 0,
+        Ok(()) => 0,
+        Err(no) => no.into(),
     }
 }

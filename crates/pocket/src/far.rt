@@ -1,25 +1,32 @@
 // The distance map.
-ghost use Rattle.std.specs.Prelude.{◌≡◌};
+ghost use Rattle.std.specs.Prelude.{◌≡◌, OnOk};
 ghost use Rattle.distance.specs.Least.{Transformed};
 ghost use Rattle.pocket.specs.Answers.{of_done};
-ghost use Rattle.pocket.specs.Refusals.{far_refusal};
+ghost use Rattle.pocket.specs.Refusals.{far_asked};
 ghost use Rattle.pocket.specs.Leaves.{on_far, told_far, distance_map_of};
 
-use super::answers::{Done, of_done};
+use super::answers::of_done;
 use super::ranges::sides_fit;
+use super::refusals::Refusal;
 
 // The sides, and the lengths of marks, squares and distances.
-fn far_refusal(nx: usize, ny: usize, marks: usize, squares: usize, distances: usize) -> u32
-    ensures { result ≡ far_refusal nx ny marks squares distances }
+fn ask_far(
+    nx: usize,
+    ny: usize,
+    marks: usize,
+    squares: usize,
+    distances: usize,
+) -> Result<(), Refusal>
+    ensures { result ≡ far_asked nx ny marks squares distances }
 {
     if !sides_fit(nx, ny) {
-        return 14;
+        return Err(Refusal::NoRaster);
     }
     let n = ny * nx;
     if (n <= marks) & ((n + 3 * nx <= squares) & (n <= distances)) {
-        return 0;
+        return Ok(());
     }
-    15
+    Err(Refusal::TooShort)
 }
 
 // The distance of each cell to the nearest whose byte is `mark`: the least exact square, and its rounded root.
@@ -30,17 +37,14 @@ pub fn distance_map(
     mark: u8,
     squares: &mut [u32],
     distances: &mut [f64],
-) -> Done
+) -> Result<(), Refusal>
     ensures distances_after { on_far result squares.new distances.new ≡ distance_map_of nx ny marks.now mark squares.old distances.old }
-    ensures transformed { result ≡ Done.Finished → Transformed mark marks.now nx ny squares.old squares.new }
+    ensures transformed { OnOk result (Transformed mark marks.now nx ny squares.old squares.new) }
 {
-    let no = far_refusal(nx, ny, marks.len(), squares.len(), distances.len());
-    if no != 0 {
-        return Done::Refused(no);
-    }
+    ask_far(nx, ny, marks.len(), squares.len(), distances.len())?;
     distance::transform(marks, mark, nx, ny, squares);
     distance::roots::distances(squares, ny * nx, distances);
-    Done::Finished
+    Ok(())
 }
 
 #[unsafe(no_mangle)]

@@ -9,6 +9,6 @@ pub mod logs;
 pub mod maps;
 pub mod places;
 mod ranges;
-mod refusals;
+pub mod refusals;
 pub mod rim;
 pub mod values;

@@ -1,12 +1,12 @@
 // The stock map with a log: a crescent cleared and logged, logged cells set back or cleared again.
 ghost use Rattle.std.specs.Prelude.{◌≡◌, ◌≤◌, length};
 ghost use Rattle.pocket.specs.Answers.{of_count, of_done};
-ghost use Rattle.pocket.specs.Refusals.{room_fit, crescent_refusal, log_fit, log_refusal};
+ghost use Rattle.pocket.specs.Refusals.{room_fit, crescent_asked, log_fit, log_asked};
 ghost use Rattle.pocket.specs.Leaves.{on_map, told_map, on_log, told_log, clear_crescent_of, undo_of, clear_again_of};
 
-use super::answers::{Count, Done, PocketCount, of_count, of_done};
+use super::answers::{PocketCount, of_done};
 use super::ranges::{disk_fits, grid_fits, point_fits, sides_fit};
-use super::refusals::{map_refusal, size_refusal};
+use super::refusals::{Refusal, ask_map, ask_size};
 use geom::vec2::Vec2;
 use raster::grid::Grid;
 
@@ -26,7 +26,7 @@ fn room_fits(n: usize, map: &[u8], long: usize, used: usize) -> bool
     (n <= long) & (raster::stock::count(&map[0..n]) <= room)
 }
 
-fn crescent_refusal(
+fn ask_crescent(
     g: Grid,
     prev: Vec2,
     c: Vec2,
@@ -34,18 +34,15 @@ fn crescent_refusal(
     map: &[u8],
     long: usize,
     used: usize,
-) -> u32
-    ensures { result ≡ crescent_refusal g prev c r map.now long used }
+) -> Result<(), Refusal>
+    ensures { result ≡ crescent_asked g prev c r map.now long used }
 {
     let fit = grid_fits(g) & (point_fits(prev) & disk_fits(c, r));
-    let no = map_refusal(fit, g.nx, g.ny, map.len());
-    if no != 0 {
-        return no;
-    }
+    ask_map(fit, g.nx, g.ny, map.len())?;
     if !room_fits(g.ny * g.nx, map, long, used) {
-        return 15;
+        return Err(Refusal::TooShort);
     }
-    0
+    Ok(())
 }
 
 // Clears the crescent from prev to c, with the numbers of the cells that were stock appended to the
@@ -58,15 +55,12 @@ pub fn clear_crescent(
     r: f64,
     log: &mut [u32],
     used: usize,
-) -> Count
+) -> Result<usize, Refusal>
     ensures { on_log result map.new log.new ≡ clear_crescent_of g prev c r used map.old log.old }
 {
-    let no = crescent_refusal(g, prev, c, r, map, log.len(), used);
-    if no != 0 {
-        return Count::Refused(no);
-    }
+    ask_crescent(g, prev, c, r, map, log.len(), used)?;
     let n = g.ny * g.nx;
-    Count::Of(raster::log::clear_disk_after_logged(g, &mut map[0..n], prev, c, r, log, used))
+    Ok(raster::log::clear_disk_after_logged(g, &mut map[0..n], prev, c, r, log, used))
 }
 
 // Whether the log has its used part, and each cell there is below n.
@@ -84,40 +78,40 @@ fn log_fits(log: &[u32], used: usize, n: usize) -> bool
     true
 }
 
-fn log_refusal(nx: usize, ny: usize, long: usize, log: &[u32], used: usize) -> u32
-    ensures { result ≡ log_refusal nx ny long log.now used }
+fn ask_log(nx: usize, ny: usize, long: usize, log: &[u32], used: usize) -> Result<(), Refusal>
+    ensures { result ≡ log_asked nx ny long log.now used }
 {
     if !sides_fit(nx, ny) {
-        return 14;
+        return Err(Refusal::NoRaster);
     }
     if !log_fits(log, used, ny * nx) {
-        return 14;
+        return Err(Refusal::NoRaster);
     }
-    size_refusal(nx, ny, long)
+    ask_size(nx, ny, long)
 }
 
 // Sets the first `used` logged cells back.
-pub fn undo(nx: usize, ny: usize, map: &mut [u8], log: &[u32], used: usize) -> Done
+pub fn undo(nx: usize, ny: usize, map: &mut [u8], log: &[u32], used: usize) -> Result<(), Refusal>
     ensures { on_map result map.new ≡ undo_of nx ny log.now used map.old }
 {
-    let no = log_refusal(nx, ny, map.len(), log, used);
-    if no != 0 {
-        return Done::Refused(no);
-    }
-    raster::log::undo(map, log, used);
-    Done::Finished
+    ask_log(nx, ny, map.len(), log, used)?;
+    raster::log::undo(map, &log[..used]);
+    Ok(())
 }
 
 // Clears the first `used` logged cells again.
-pub fn clear_again(nx: usize, ny: usize, map: &mut [u8], log: &[u32], used: usize) -> Done
+pub fn clear_again(
+    nx: usize,
+    ny: usize,
+    map: &mut [u8],
+    log: &[u32],
+    used: usize,
+) -> Result<(), Refusal>
     ensures { on_map result map.new ≡ clear_again_of nx ny log.now used map.old }
 {
-    let no = log_refusal(nx, ny, map.len(), log, used);
-    if no != 0 {
-        return Done::Refused(no);
-    }
-    raster::log::clear_again(map, log, used);
-    Done::Finished
+    ask_log(nx, ny, map.len(), log, used)?;
+    raster::log::clear_again(map, &log[..used]);
+    Ok(())
 }
 
 #[unsafe(no_mangle)]
@@ -132,7 +126,7 @@ pub extern "C" fn pocket_clear_crescent(
 ) -> PocketCount
     ensures { on_log result map.new log.new ≡ told_log of_count (clear_crescent_of grid before center radius used map.old log.old) }
 {
-    of_count(clear_crescent(grid, map, before, center, radius, log, used))
+    PocketCount::from(clear_crescent(grid, map, before, center, radius, log, used))
 }
 
 #[unsafe(no_mangle)]

@@ -27,8 +27,8 @@ pub fn point_fits(p: Vec2) -> bool
 pub fn coordinates_fit(vs: &[f64]) -> bool
     ensures { result ≡ coordinates_fit vs.now }
 {
-    for k in 0..vs.len() {
-        if !coordinate_fits(vs[k]) {
+    for x in vs {
+        if !coordinate_fits(*x) {
             return false;
         }
     }

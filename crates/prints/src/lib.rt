@@ -1,8 +1,10 @@
 // Fingerprints of what is compared with stored answers: h becomes 48271 h + v, by the remainder of 2^31 - 1, for each value in turn.
 #![tactic(auto)]
 
-ghost use Rattle.std.specs.Prelude.{◌≡◌, ◌≤◌, length};
-ghost use Rattle.prints.specs.Print.{mixed, print_of, floats_of};
+ghost use Rattle.std.specs.Prelude.{◌≡◌, ℕ, cond};
+ghost use Rattle.std.specs.Float.{binary64};
+ghost use Rattle.std.specs.Float.Ieee.{to_bits};
+ghost use Rattle.prints.specs.Print.{mixed, printed};
 
 use bits::pattern;
 
@@ -12,38 +14,69 @@ pub fn mix(h: u64, v: u64) -> u64
     (h % 2147483647 * 48271 + v % 2147483647) % 2147483647
 }
 
-// Of the first n bytes of a map.
-pub fn of_map(map: &[u8], n: usize) -> u64
-    requires { n ≤ length map.now }
-    ensures { result ≡ print_of map.now n }
-{
-    let mut h = 1u64;
-    for k in 0..n {
-        h = mix(h, map[k] as u64);
-    }
-    h
+// What is printed of a value: a map's byte, a log's number or a square, a count, a flag, a fingerprint, a float's bit pattern.
+pub trait Printed: Copy {
+    ghost number: { Self → ℕ };
+
+    fn number(self) -> u64
+        ensures { result ≡ number self };
 }
 
-// Of the first n numbers of a log, or squares.
-pub fn of_numbers(s: &[u32], n: usize) -> u64
-    requires { n ≤ length s.now }
-    ensures { result ≡ print_of s.now n }
-{
-    let mut h = 1u64;
-    for k in 0..n {
-        h = mix(h, s[k] as u64);
+impl Printed for u8 {
+    ghost number = { λ n. n };
+
+    fn number(self) -> u64 {
+        u64::from(self)
     }
-    h
 }
 
-// Of the first n floats, as bit patterns.
-pub fn of_floats(w: &[f64], n: usize) -> u64
-    requires { n ≤ length w.now }
-    ensures { result ≡ floats_of w.now n }
+impl Printed for u32 {
+    ghost number = { λ n. n };
+
+    fn number(self) -> u64 {
+        u64::from(self)
+    }
+}
+
+impl Printed for u64 {
+    ghost number = { λ n. n };
+
+    fn number(self) -> u64 {
+        self
+    }
+}
+
+impl Printed for usize {
+    ghost number = { λ n. n };
+
+    fn number(self) -> u64 {
+        self as u64
+    }
+}
+
+// 1 is yes.
+impl Printed for bool {
+    ghost number = { λ b. cond b 1 0 };
+
+    fn number(self) -> u64 {
+        u64::from(self)
+    }
+}
+
+impl Printed for f64 {
+    ghost number = { to_bits binary64 };
+
+    fn number(self) -> u64 {
+        pattern(self)
+    }
+}
+
+pub fn print<T: Printed>(s: &[T]) -> u64
+    ensures { result ≡ printed T.number 1 s.now }
 {
     let mut h = 1u64;
-    for k in 0..n {
-        h = mix(h, pattern(w[k]));
+    for &v in s {
+        h = mix(h, v.number());
     }
     h
 }

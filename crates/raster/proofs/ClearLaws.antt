@@ -1,5 +1,6 @@
 -- Which cells a disk and a crescent clear: the stock cells whose centres lie in the disk, and for a crescent not in the disk at the point before, by
 -- disk_row's arithmetic; every other cell is as it was. Proved of the map alone (`wipe_cell`); clearing with a count or a log has the same map. Assumes nothing.
+use Rattle.std.specs.Prelude.{None, Some}
 use mathlib.Core.Path.{◌≡◌, refl, sym, ap, ◌∙◌, subst}
 use mathlib.Core.Bool.{Bool, true, false, cond, ◌||◌, ◌&&◌}
 use mathlib.Core.List.{List}
@@ -16,14 +17,12 @@ use Rattle.loops.proofs.Cases.{by_cases, by_test, both, or_left, or_right, or_fa
 use Rattle.loops.proofs.CellLaws.{below_length}
 use Rattle.geom.specs.declared.vec2.Vec2.{Vec2}
 use Rattle.raster.specs.Grid.{Sides}
-use Rattle.raster.specs.Disk.{disk_row, crescent_row, rows_of, left_of, right_of, less, two}
+use Rattle.raster.specs.Disk.{Span, disk_row, crescent_row, rows_of, left_of, right_of, less, two}
 use Rattle.raster.specs.Sweep.{over_span, disk_at, over_disk, crescent_at, over_crescent}
 use Rattle.raster.specs.Stock.{wipe_cell, Cleared, cl, drop_cell, clear_disk}
 use Rattle.raster.specs.Log.{Stock, clear_cell, clear_after}
 use Rattle.raster.specs.declared.grid.Grid.{Grid}
 use Rattle.raster.specs.declared.disk.Crescent.{Crescent}
-use Rattle.raster.specs.declared.disk.Span.{Span}
-use Rattle.raster.specs.declared.disk.Span.TheVariants.{Empty, Cols}
 use Rattle.raster.proofs.RowLaws.{InRow, disk_in, crescent_in, rows-below}
 use Rattle.raster.proofs.SweepLaws.{disk_image, crescent_image}
 use Rattle.raster.proofs.PaintLaws.{or_none, any_at, any_none, in_span, Has, span_has, span_lacks, span_beyond, pick, Changes, changes_then, changes_loop, changes_span}
@@ -77,7 +76,7 @@ abbrev in_row : Grid → Crescent → ℕ → ℕ → Bool
 in_row g p j k = in_span (j * g.nx) p.left k || in_span (j * g.nx) p.right k
 
 module _ (n : ℕ) (g : Grid) where
-  clears_disk_at : (c : Vec2) (r : Float) (j : ℕ) (s : List ℕ) → Map s → Changes off n (in_row g (two (disk_row g c r j) Empty) j) s (disk_at wipe_cell g c r j s)
+  clears_disk_at : (c : Vec2) (r : Float) (j : ℕ) (s : List ℕ) → Map s → Changes off n (in_row g (two (disk_row g c r j) None) j) s (disk_at wipe_cell g c r j s)
   unfolding disk_at Changes
   clears_disk_at c r j s q k h =
       unfold Changes in (clears_span n (j * g.nx) (disk_row g c r j) s k h)
@@ -94,10 +93,10 @@ abbrev in_rows : Grid → (ℕ → Crescent) → ℕ → ℕ → ℕ → Bool
 in_rows g part first last k = any (λ j. in_row g (part j) j k) first (last + 1)
 
 clears_disk : (g : Grid) (c : Vec2) (r : Float) (s : List ℕ) (k : ℕ)
-    → get_or (over_disk wipe_cell g c r s) k 0 ≡ pick off (in_rows g (λ j. two (disk_row g c r j) Empty) (rows_of g c r).0 (rows_of g c r).1 k) (get_or s k 0)
+    → get_or (over_disk wipe_cell g c r s) k 0 ≡ pick off (in_rows g (λ j. two (disk_row g c r j) None) (rows_of g c r).0 (rows_of g c r).1 k) (get_or s k 0)
 unfolding over_disk Changes
 clears_disk g c r s k =
-    changes_loop off off-off (suc k) Map (disk_at wipe_cell g c r) (λ i s q. tt) (λ j. in_row g (two (disk_row g c r j) Empty) j) (clears_disk_at (suc k) g c r)
+    changes_loop off off-off (suc k) Map (disk_at wipe_cell g c r) (λ i s q. tt) (λ j. in_row g (two (disk_row g c r j) None) j) (clears_disk_at (suc k) g c r)
     (rows_of g c r).0 ((rows_of g c r).1 + 1) s tt k (omega arith)
 
 clears_crescent : (g : Grid) (prev c : Vec2) (r : Float) (s : List ℕ) (k : ℕ)
@@ -139,21 +138,21 @@ module _ (g : Grid) (part : ℕ → Crescent) (first last : ℕ) (parts : (j : �
 
 left-has : (i i0 p0 : ℕ) → Has i (left_of i0 p0) → (i0 ≤ i) × (i < p0)
 unfolding left_of
-left-has i i0 p0 = by_test (λ (s : Span). Has i s → (i0 ≤ i) × (i < p0)) (ltb i0 p0) (Cols i0 (p0 - 1)) Empty (λ t h. omega (arith, ltb-true i0 p0 t, h.0, h.1)) (λ t h. absurd h)
+left-has i i0 p0 = by_test (λ (s : Span). Has i s → (i0 ≤ i) × (i < p0)) (ltb i0 p0) (Some (i0, p0 - 1)) None (λ t h. omega (arith, ltb-true i0 p0 t, h.0, h.1)) (λ t h. absurd h)
 
 has_left : (i i0 p0 : ℕ) → i0 ≤ i → i < p0 → Has i (left_of i0 p0)
 unfolding left_of
 has_left i i0 p0 a b =
-    by_test (Has i) (ltb i0 p0) (Cols i0 (p0 - 1)) Empty (λ t. omega arith) (λ t. absurd (let z : ⊥ = omega (arith, ltb-false i0 p0 t) in z))
+    by_test (Has i) (ltb i0 p0) (Some (i0, p0 - 1)) None (λ t. omega arith) (λ t. absurd (let z : ⊥ = omega (arith, ltb-false i0 p0 t) in z))
 
 right-has : (i p1 i1 : ℕ) → Has i (right_of p1 i1) → (p1 < i) × (i ≤ i1)
 unfolding right_of
-right-has i p1 i1 = by_test (λ (s : Span). Has i s → (p1 < i) × (i ≤ i1)) (ltb p1 i1) (Cols (p1 + 1) i1) Empty (λ t h. omega (arith, h.0, h.1)) (λ t h. absurd h)
+right-has i p1 i1 = by_test (λ (s : Span). Has i s → (p1 < i) × (i ≤ i1)) (ltb p1 i1) (Some (p1 + 1, i1)) None (λ t h. omega (arith, h.0, h.1)) (λ t h. absurd h)
 
 has_right : (i p1 i1 : ℕ) → p1 < i → i ≤ i1 → Has i (right_of p1 i1)
 unfolding right_of
 has_right i p1 i1 a b =
-    by_test (Has i) (ltb p1 i1) (Cols (p1 + 1) i1) Empty (λ t. omega arith) (λ t. absurd (let z : ⊥ = omega (arith, ltb-false p1 i1 t) in z))
+    by_test (Has i) (ltb p1 i1) (Some (p1 + 1, i1)) None (λ t. omega arith) (λ t. absurd (let z : ⊥ = omega (arith, ltb-false p1 i1 t) in z))
 
 abbrev Parts : ℕ → Crescent → Type 0
 Parts i k = Has i k.left ⊎ Has i k.right
@@ -164,10 +163,10 @@ not_both false b e = inl refl
 
 pub less-has : (i : ℕ) (s q : Span) → Parts i (less s q) → Has i s × (Has i q → ⊥)
 unfolding less
-less-has i Empty q h = ⊎_elim (λ w. absurd w) (λ w. absurd w) h
-less-has i (Cols i0 i1) Empty h = ⊎_elim (λ w. (w, λ v. v)) (λ w. absurd w) h
-less-has i (Cols i0 i1) (Cols p0 p1) h' =
-    by_test (λ (k : Crescent). Parts i k → Has i (Cols i0 i1) × (Has i (Cols p0 p1) → ⊥)) (leb p0 i1 && leb i0 p1) (two (left_of i0 p0) (right_of p1 i1)) (two (Cols i0 i1) Empty)
+less-has i None q h = ⊎_elim (λ w. absurd w) (λ w. absurd w) h
+less-has i (Some (i0, i1)) None h = ⊎_elim (λ w. (w, λ v. v)) (λ w. absurd w) h
+less-has i (Some (i0, i1)) (Some (p0, p1)) h' =
+    by_test (λ (k : Crescent). Parts i k → Has i (Some (i0, i1)) × (Has i (Some (p0, p1)) → ⊥)) (leb p0 i1 && leb i0 p1) (two (left_of i0 p0) (right_of p1 i1)) (two (Some (i0, i1)) None)
     (λ t h.
     let a = leb-true p0 i1 (both (leb p0 i1) (leb i0 p1) t).0 in
     let b = leb-true i0 p1 (both (leb p0 i1) (leb i0 p1) t).1 in
@@ -189,10 +188,10 @@ less-has i (Cols i0 i1) (Cols p0 p1) h' =
 
 pub has-less : (i : ℕ) (s q : Span) → Has i s → (Has i q → ⊥) → Parts i (less s q)
 unfolding less
-has-less i Empty q h f = absurd h
-has-less i (Cols i0 i1) Empty h f = inl h
-has-less i (Cols i0 i1) (Cols p0 p1) h f =
-    by_test (Parts i) (leb p0 i1 && leb i0 p1) (two (left_of i0 p0) (right_of p1 i1)) (two (Cols i0 i1) Empty)
+has-less i None q h f = absurd h
+has-less i (Some (i0, i1)) None h f = inl h
+has-less i (Some (i0, i1)) (Some (p0, p1)) h f =
+    by_test (Parts i) (leb p0 i1 && leb i0 p1) (two (left_of i0 p0) (right_of p1 i1)) (two (Some (i0, i1)) None)
     (λ t. by_cases (ltb i p0)
     (λ a. inl (has_left i i0 p0 h.0 (ltb-true i p0 a)))
     (λ a. by_cases (ltb p1 i)
@@ -214,7 +213,7 @@ pub record InCrescent (g : Grid) (prev c : Vec2) (r : Float) (i j : ℕ) : Type 
   pub there : Has i (disk_row g prev r j) → ⊥
 
 module _ (g : Grid) (sides : Sides g) where
-  disk_parts : (c : Vec2) (r : Float) (j : ℕ) → InRow g.nx (disk_row g c r j) × InRow g.nx Empty
+  disk_parts : (c : Vec2) (r : Float) (j : ℕ) → InRow g.nx (disk_row g c r j) × InRow g.nx None
   disk_parts c r j = (disk_in g c r j sides, tt)
 
   module _ (c : Vec2) (r : Float) (m : List ℕ) where
@@ -223,14 +222,14 @@ module _ (g : Grid) (sides : Sides g) where
     disk_clears i j h n =
         clears_disk g c r m (j * g.nx + i)
         ∙ ap (λ (b : Bool). pick off b (get_or m (j * g.nx + i) 0))
-        (rows-has g (λ j. two (disk_row g c r j) Empty) (rows_of g c r).0 (rows_of g c r).1 (disk_parts c r) i j h n.first n.last (inl n.column))
+        (rows-has g (λ j. two (disk_row g c r j) None) (rows_of g c r).0 (rows_of g c r).1 (disk_parts c r) i j h n.first n.last (inl n.column))
 
     -- any other is as it was
     pub disk_keeps : (i j : ℕ) → i < g.nx → (InDisk g c r i j → ⊥) → get_or (over_disk wipe_cell g c r m) (j * g.nx + i) 0 ≡ get_or m (j * g.nx + i) 0
     disk_keeps i j h f =
         clears_disk g c r m (j * g.nx + i)
         ∙ ap (λ (b : Bool). pick off b (get_or m (j * g.nx + i) 0))
-        (rows_lack g (λ j. two (disk_row g c r j) Empty) (rows_of g c r).0 (rows_of g c r).1 (disk_parts c r) i j h
+        (rows_lack g (λ j. two (disk_row g c r j) None) (rows_of g c r).0 (rows_of g c r).1 (disk_parts c r) i j h
         (λ a b n. ⊎_elim (λ w. f (record { first = a; last = b; column = w })) (λ w. absurd w) n))
 
     -- so is all beyond the grid
@@ -238,7 +237,7 @@ module _ (g : Grid) (sides : Sides g) where
     disk-beyond k l =
         clears_disk g c r m k
         ∙ ap (λ (b : Bool). pick off b (get_or m k 0))
-        (rows-beyond g (λ j. two (disk_row g c r j) Empty) (rows_of g c r).0 (rows_of g c r).1 (disk_parts c r) (rows-below g c r sides.high) k l)
+        (rows-beyond g (λ j. two (disk_row g c r j) None) (rows_of g c r).0 (rows_of g c r).1 (disk_parts c r) (rows-below g c r sides.high) k l)
 
     module _ (prev : Vec2) where
       pub crescent_clears : (i j : ℕ) → i < g.nx → InCrescent g prev c r i j → get_or (over_crescent wipe_cell g prev c r m) (j * g.nx + i) 0 ≡ off (get_or m (j * g.nx + i) 0)

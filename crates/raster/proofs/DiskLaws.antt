@@ -1,5 +1,6 @@
 -- What each return of a function on rows shows, over plain values: every callee's result is a variable, with what the callee ensures as an equation.
 -- A proof hands over the results' `ensures` and the tests. Assumes nothing.
+use Rattle.std.specs.Prelude.{None, Some}
 use mathlib.Core.Path.{◌≡◌, refl, sym, ◌∙◌, subst}
 use mathlib.Core.Bool.{true, false}
 use Prim.Native.Nat.{ℕ, ◌+◌, ◌-◌, ◌^◌, ◌≤◌, ◌<◌, zero-le, min}
@@ -24,23 +25,21 @@ use Rattle.numbers.specs.Root.{root_of}
 use Rattle.geom.specs.Vec.{f0}
 use Rattle.geom.specs.declared.vec2.Vec2.{Vec2}
 use Rattle.numbers.specs.Cast.{float}
-use Rattle.raster.specs.Disk.{row_y, cell_at, first_from, cols_of, chord_of, last_row, rows_of, left_of, right_of, less, two}
+use Rattle.raster.specs.Disk.{Span, row_y, cell_at, first_from, cols_of, chord_of, last_row, rows_of, left_of, right_of, less, two}
 use Rattle.raster.specs.declared.grid.Grid.{Grid}
 use Rattle.raster.specs.declared.disk.Rows.{Rows}
 use Rattle.raster.specs.declared.disk.Crescent.{Crescent}
-use Rattle.raster.specs.declared.disk.Span.{Span}
-use Rattle.raster.specs.declared.disk.Span.TheVariants.{Empty, Cols}
 
 pub first-is : (x u r : Float) → u ≡ ceil_of x → r ≡ max_of u f0 → r ≡ first_from x
 unfolding first_from
 first-is x u r e d = rw (← e) d
 
 module _ (i0 i1 : Float) (nx : ℕ) (a : lt i1 f0 ≡ false) (b : lt i1 i0 ≡ false) (n : Float) (p : n ≡ float nx) where
-  pub cols_past : le n i0 ≡ true → Empty ≡ cols_of i0 i1 nx
+  pub cols_past : le n i0 ≡ true → None ≡ cols_of i0 i1 nx
   unfolding cols_of
   cols_past t = rw (a, b, ← p, t)
 
-  pub cols_are : le n i0 ≡ false → (k0 k1 l : ℕ) → k0 ≡ to_unsigned 64 i0 → k1 ≡ to_unsigned 64 i1 → l ≡ min k1 (nx - 1) → Cols k0 l ≡ cols_of i0 i1 nx
+  pub cols_are : le n i0 ≡ false → (k0 k1 l : ℕ) → k0 ≡ to_unsigned 64 i0 → k1 ≡ to_unsigned 64 i1 → l ≡ min k1 (nx - 1) → Some (k0, l) ≡ cols_of i0 i1 nx
   unfolding cols_of
   cols_are t k0 k1 l u v w = rw (a, b, ← p, t, ← u, ← v, ← w)
 
@@ -66,16 +65,16 @@ back : (k : ℕ) → k ≤ 2 ^ 32 → to_unsigned 64 (float k) ≡ k
 back k b = cut-whole binary64 64 k (omega arith) (omega arith)
 
 module _ (k0 k1 nx : ℕ) (a : k0 ≤ 2 ^ 32) (b : k1 ≤ 2 ^ 32) where
-  pub between_none : k1 < k0 → Empty ≡ cols_of (float k0) (float k1) nx
+  pub between_none : k1 < k0 → None ≡ cols_of (float k0) (float k1) nx
   unfolding cols_of
   between_none h = rw (none_below k1, whole-less k1 k0 h (omega arith))
 
   module _ (h : k0 ≤ k1) where
-    pub between-past : nx ≤ k0 → Empty ≡ cols_of (float k0) (float k1) nx
+    pub between-past : nx ≤ k0 → None ≡ cols_of (float k0) (float k1) nx
     unfolding cols_of
     between-past p = rw (none_below k1, le_not_lt (float k0) (float k1) (whole_mono binary64 k0 k1 h), whole_mono binary64 nx k0 p)
 
-    pub between_are : k0 < nx → (l : ℕ) → l ≡ min k1 (nx - 1) → Cols k0 l ≡ cols_of (float k0) (float k1) nx
+    pub between_are : k0 < nx → (l : ℕ) → l ≡ min k1 (nx - 1) → Some (k0, l) ≡ cols_of (float k0) (float k1) nx
     unfolding cols_of
     between_are p l e = rw (none_below k1, le_not_lt (float k0) (float k1) (whole_mono binary64 k0 k1 h), whole-past nx k0 a p, back k0 a, back k1 b, e)
 
@@ -120,7 +119,7 @@ abbrev h2_of : Float → Float → Float → Float
 h2_of r2 y cy = sub binary64 r2 (mul binary64 (sub binary64 y cy) (sub binary64 y cy))
 
 module _ (g : Grid) (c : Vec2) (r2 : Float) (j : ℕ) (y : Float) (p : y ≡ row_y g j) where
-  pub chord_none : lt (h2_of r2 y c.y) f0 ≡ true → Empty ≡ chord_of g c r2 j
+  pub chord_none : lt (h2_of r2 y c.y) f0 ≡ true → None ≡ chord_of g c r2 j
   unfolding chord_of
   chord_none t = rw (← p, t)
 
@@ -139,25 +138,25 @@ pub rows_are : (g : Grid) (c : Vec2) (r u w d e : Float) (j0 j1 : ℕ) → u ≡
 unfolding rows_of
 rows_are g c r u w d e j0 j1 e₁ e₂ e₃ e₄ e₅ e₆ = rw (← e₁, ← e₂, ← e₃, ← e₄, ← e₅, ← e₆)
 
-pub less_none : (s q : Span) → s ≡ Empty → two Empty Empty ≡ less s q
+pub less_none : (s q : Span) → s ≡ None → two s None ≡ less s q
 unfolding less
 less_none s q e = rw e
 
-module _ (s q : Span) (i0 i1 : ℕ) (e : s ≡ Cols i0 i1) where
-  pub less-all : q ≡ Empty → two (Cols i0 i1) Empty ≡ less s q
+module _ (s q : Span) (i0 i1 : ℕ) (e : s ≡ Some (i0, i1)) where
+  pub less-all : q ≡ None → two s None ≡ less s q
   unfolding less
   less-all d = rw (e, d)
 
-  module _ (p0 p1 : ℕ) (d : q ≡ Cols p0 p1) where
+  module _ (p0 p1 : ℕ) (d : q ≡ Some (p0, p1)) where
     pub less_two : p0 ≤ i1 → i0 ≤ p1 → (l r : Span) → l ≡ left_of i0 p0 → r ≡ right_of p1 i1 → two l r ≡ less s q
     unfolding less
     less_two a b l r u v = rw (e, d, le-leb p0 i1 a, le-leb i0 p1 b, u, v)
 
-    pub less-before : p0 ≤ i1 → p1 < i0 → two (Cols i0 i1) Empty ≡ less s q
+    pub less-before : p0 ≤ i1 → p1 < i0 → two s None ≡ less s q
     unfolding less
     less-before a b = rw (e, d, le-leb p0 i1 a, lt-leb i0 p1 b)
 
-    pub less-after : i1 < p0 → two (Cols i0 i1) Empty ≡ less s q
+    pub less-after : i1 < p0 → two s None ≡ less s q
     unfolding less
     less-after a = rw (e, d, lt-leb p0 i1 a)
 

@@ -1,4 +1,7 @@
 -- The cell at a point, by the tests that the code makes; a cell's number gives its column and row back. Assumes nothing.
+use Rattle.std.specs.Prelude.{Err, None, Ok, Option, Result, Some}
+use Rattle.raster.specs.declared.grid.Refusal.{Refusal}
+use Rattle.raster.specs.declared.grid.Refusal.TheVariants.{Unfit, TooLarge}
 use mathlib.Core.Path.{◌≡◌, refl, sym, ap, ◌∙◌, subst}
 use mathlib.Core.Bool.{Bool, true, false, cond, not, ◌&&◌, ◌||◌}
 use mathlib.Core.List.{List}
@@ -18,10 +21,6 @@ use Rattle.loops.proofs.CellLaws.{row_below}
 use Rattle.floats.proofs.OrderLaws.{le_not_lt, not_le_lt}
 use Rattle.raster.specs.Grid.{Sides, reach_of, fit_of, grid_of, sized_of, new_grid, column_at, row_at, astray, on_grid, cell_of, stock_at}
 use Rattle.raster.specs.declared.grid.Grid.{Grid}
-use Rattle.raster.specs.declared.grid.Raster.{Raster}
-use Rattle.raster.specs.declared.grid.Raster.TheVariants.{Unfit, TooLarge, Of}
-use Rattle.raster.specs.declared.grid.Found.{Found}
-use Rattle.raster.specs.declared.grid.Found.TheVariants.{Nothing, At}
 
 -- ---- floats that an index comes from
 
@@ -79,32 +78,32 @@ either_way true x y e = refl
 either_way false x y e = sym e
 
 module _ (g : Grid) (p : Vec2) where
-  pub none-column : le f0 (column_at g p) ≡ false → Nothing ≡ cell_of g p
+  pub none-column : le f0 (column_at g p) ≡ false → None ≡ cell_of g p
   unfolding cell_of
   none-column h =
       ⊎_elim (λ t. rw t) (λ t. first _ _ _ (or_third (lt (column_at g p) f0) (lt (row_at g p) f0) _ (not (is_finite (row_at g p))) (ap not t))) (below_zero (column_at g p) h)
 
-  pub none_row : le f0 (row_at g p) ≡ false → Nothing ≡ cell_of g p
+  pub none_row : le f0 (row_at g p) ≡ false → None ≡ cell_of g p
   unfolding cell_of
   none_row h =
       ⊎_elim (λ t. first _ _ _ (or_second (lt (column_at g p) f0) _ (not (is_finite (column_at g p)) || not (is_finite (row_at g p))) t))
       (λ t. first _ _ _ (or_fourth (lt (column_at g p) f0) (lt (row_at g p) f0) (not (is_finite (column_at g p))) _ (ap not t))) (below_zero (row_at g p) h)
 
-  off-grid : on_grid g (to_unsigned 64 (column_at g p)) (to_unsigned 64 (row_at g p)) ≡ Nothing → Nothing ≡ cell_of g p
+  off-grid : on_grid g (to_unsigned 64 (column_at g p)) (to_unsigned 64 (row_at g p)) ≡ None → None ≡ cell_of g p
   unfolding cell_of
-  off-grid h = either_way (astray (column_at g p) (row_at g p)) Nothing (on_grid g (to_unsigned 64 (column_at g p)) (to_unsigned 64 (row_at g p))) h
+  off-grid h = either_way (astray (column_at g p) (row_at g p)) None (on_grid g (to_unsigned 64 (column_at g p)) (to_unsigned 64 (row_at g p))) h
 
-  pub past-column : (i : ℕ) → i ≡ to_unsigned 64 (column_at g p) → g.nx ≤ i → Nothing ≡ cell_of g p
+  pub past-column : (i : ℕ) → i ≡ to_unsigned 64 (column_at g p) → g.nx ≤ i → None ≡ cell_of g p
   unfolding on_grid
   past-column i e h = off-grid (rw (le-ltb (to_unsigned 64 (column_at g p)) g.nx (subst (λ (k : ℕ). g.nx ≤ k) e h)))
 
-  pub past_row : (i j : ℕ) → i ≡ to_unsigned 64 (column_at g p) → i < g.nx → j ≡ to_unsigned 64 (row_at g p) → g.ny ≤ j → Nothing ≡ cell_of g p
+  pub past_row : (i j : ℕ) → i ≡ to_unsigned 64 (column_at g p) → i < g.nx → j ≡ to_unsigned 64 (row_at g p) → g.ny ≤ j → None ≡ cell_of g p
   unfolding on_grid
   past_row i j e h d k =
       off-grid (rw (lt-ltb (to_unsigned 64 (column_at g p)) g.nx (subst (λ (k : ℕ). k < g.nx) e h), le-ltb (to_unsigned 64 (row_at g p)) g.ny (subst (λ (k : ℕ). g.ny ≤ k) d k)))
 
   pub found_at : g.nx < 2 ^ 64 → g.ny < 2 ^ 64 → le f0 (column_at g p) ≡ true → le f0 (row_at g p) ≡ true
-      → (i j : ℕ) → i ≡ to_unsigned 64 (column_at g p) → i < g.nx → j ≡ to_unsigned 64 (row_at g p) → j < g.ny → At i j ≡ cell_of g p
+      → (i j : ℕ) → i ≡ to_unsigned 64 (column_at g p) → i < g.nx → j ≡ to_unsigned 64 (row_at g p) → j < g.ny → Some (i, j) ≡ cell_of g p
   unfolding cell_of on_grid
   found_at wx wy a b i j e h d k =
       let h' : to_unsigned 64 (column_at g p) < g.nx = subst (λ (q : ℕ). q < g.nx) e h in
@@ -121,33 +120,33 @@ module _ (g : Grid) (p : Vec2) where
       )
 
 -- a cell that is found is one of the grid's
-abbrev pub OnGrid : Grid → Found → Type 0
-OnGrid g Nothing = Unit
-OnGrid g (At i j) = (i < g.nx) × (j < g.ny)
+abbrev pub OnGrid : Grid → Option (ℕ × ℕ) → Type 0
+OnGrid g None = Unit
+OnGrid g (Some (i, j)) = (i < g.nx) × (j < g.ny)
 
 on_both : (g : Grid) (i j : ℕ) → ltb i g.nx && ltb j g.ny ≡ true → (i < g.nx) × (j < g.ny)
 on_both g i j u = (ltb-true i g.nx (both (ltb i g.nx) (ltb j g.ny) u).0, ltb-true j g.ny (both (ltb i g.nx) (ltb j g.ny) u).1)
 
 on-grid : (g : Grid) (i j : ℕ) → OnGrid g (on_grid g i j)
 unfolding on_grid
-on-grid g i j = by_test (OnGrid g) (ltb i g.nx && ltb j g.ny) (At i j) Nothing (on_both g i j) (λ u. tt)
+on-grid g i j = by_test (OnGrid g) (ltb i g.nx && ltb j g.ny) (Some (i, j)) None (on_both g i j) (λ u. tt)
 
 pub cell-on-grid : (g : Grid) (p : Vec2) → OnGrid g (cell_of g p)
 unfolding cell_of
 cell-on-grid g p =
-    by_test (OnGrid g) (astray (column_at g p) (row_at g p)) Nothing (on_grid g (to_unsigned 64 (column_at g p)) (to_unsigned 64 (row_at g p))) (λ t. tt)
+    by_test (OnGrid g) (astray (column_at g p) (row_at g p)) None (on_grid g (to_unsigned 64 (column_at g p)) (to_unsigned 64 (row_at g p))) (λ t. tt)
     (λ t. on-grid g (to_unsigned 64 (column_at g p)) (to_unsigned 64 (row_at g p)))
 
-pub on-grid-at : (g : Grid) (p : Vec2) (f : Found) (i j : ℕ) → f ≡ cell_of g p → f ≡ At i j → (i < g.nx) × (j < g.ny)
+pub on-grid-at : (g : Grid) (p : Vec2) (f : Option (ℕ × ℕ)) (i j : ℕ) → f ≡ cell_of g p → f ≡ Some (i, j) → (i < g.nx) × (j < g.ny)
 on-grid-at g p f i j e d = subst (OnGrid g) (sym e ∙ d) (cell-on-grid g p)
 
 -- ---- stock at a point
 
-pub stock-none : (g : Grid) (m : List ℕ) (p : Vec2) (f : Found) → f ≡ cell_of g p → f ≡ Nothing → false ≡ stock_at g m p
+pub stock-none : (g : Grid) (m : List ℕ) (p : Vec2) (f : Option (ℕ × ℕ)) → f ≡ cell_of g p → f ≡ None → false ≡ stock_at g m p
 unfolding stock_at
 stock-none g m p f e d = rw (← e, d)
 
-pub stock-some : (g : Grid) (m : List ℕ) (p : Vec2) (f : Found) (i j k : ℕ) → f ≡ cell_of g p → f ≡ At i j → k ≡ j * g.nx + i → eqb (get_or m k 0) 1 ≡ stock_at g m p
+pub stock-some : (g : Grid) (m : List ℕ) (p : Vec2) (f : Option (ℕ × ℕ)) (i j k : ℕ) → f ≡ cell_of g p → f ≡ Some (i, j) → k ≡ j * g.nx + i → eqb (get_or m k 0) 1 ≡ stock_at g m p
 unfolding stock_at
 stock-some g m p f i j k e d h = rw (← e, d, h)
 
@@ -168,35 +167,34 @@ pub few-cells : (a b : ℕ) → a ≤ 4096 → b ≤ 4096 → a * b ≤ 16777216
 few-cells a b h k = let z : a * b ≤ 4096 * b = mul-le-mul_right b h in omega arith
 
 module _ (lo hi : Vec2) (cell margin : Float) (w h : ℕ) (e : w ≡ reach_of lo.x hi.x cell margin) where
-  pub sized-wide : 4096 ≤ w → TooLarge ≡ sized_of (grid_of lo hi cell margin)
+  pub sized-wide : 4096 ≤ w → Err TooLarge ≡ sized_of (grid_of lo hi cell margin)
   unfolding sized_of grid_of
   sized-wide a = rw (← e, lt-leb (w + 1) 4096 (let z : 4096 < w + 1 = omega arith in z))
 
   module _ (d : h ≡ reach_of lo.y hi.y cell margin) (a : w < 4096) where
-    pub sized-high : 4096 ≤ h → TooLarge ≡ sized_of (grid_of lo hi cell margin)
+    pub sized-high : 4096 ≤ h → Err TooLarge ≡ sized_of (grid_of lo hi cell margin)
     unfolding sized_of grid_of
     sized-high b = rw (← e, ← d, le-leb (w + 1) 4096 (let z : w + 1 ≤ 4096 = omega arith in z), lt-leb (h + 1) 4096 (let z : 4096 < h + 1 = omega arith in z))
 
     module _ (b : h < 4096) where
-      pub sized_many : 1048576 < (h + 1) * (w + 1) → TooLarge ≡ sized_of (grid_of lo hi cell margin)
+      pub sized_many : 1048576 < (h + 1) * (w + 1) → Err TooLarge ≡ sized_of (grid_of lo hi cell margin)
       unfolding sized_of grid_of
       sized_many f =
           rw (← e, ← d, le-leb (w + 1) 4096 (let z : w + 1 ≤ 4096 = omega arith in z), le-leb (h + 1) 4096 (let z : h + 1 ≤ 4096 = omega arith in z), lt-leb ((h + 1) * (w + 1)) 1048576 f)
 
-      pub sized-is : (h + 1) * (w + 1) ≤ 1048576 → (o : Vec2) → o ≡ difference lo (v2 margin margin) → Of (record { origin = o; cell = cell; nx = w + 1; ny = h + 1 }) ≡ sized_of (grid_of lo hi cell margin)
+      pub sized-is : (h + 1) * (w + 1) ≤ 1048576 → (o : Vec2) → o ≡ difference lo (v2 margin margin) → Ok (record { origin = o; cell = cell; nx = w + 1; ny = h + 1 }) ≡ sized_of (grid_of lo hi cell margin)
       unfolding sized_of grid_of
       sized-is f o c =
           rw (← e, ← d, le-leb (w + 1) 4096 (let z : w + 1 ≤ 4096 = omega arith in z), le-leb (h + 1) 4096 (let z : h + 1 ≤ 4096 = omega arith in z), le-leb ((h + 1) * (w + 1)) 1048576 f, ← c)
 
-abbrev Allowed : Raster → Type 0
-Allowed Unfit = Unit
-Allowed TooLarge = Unit
-Allowed (Of g) = Sides g
+abbrev Allowed : Result Grid Refusal → Type 0
+Allowed (Err r) = Unit
+Allowed (Ok g) = Sides g
 
 sized-allowed : (g : Grid) → 0 < g.nx → 0 < g.ny → Allowed (sized_of g)
 unfolding sized_of
 sized-allowed g a b =
-    by_test Allowed (leb g.nx 4096 && (leb g.ny 4096 && leb (g.ny * g.nx) 1048576)) (Of g) TooLarge
+    by_test Allowed (leb g.nx 4096 && (leb g.ny 4096 && leb (g.ny * g.nx) 1048576)) (Ok g) (Err TooLarge)
     (λ t.
     let p = both (leb g.nx 4096) (leb g.ny 4096 && leb (g.ny * g.nx) 1048576) t in
     let q = both (leb g.ny 4096) (leb (g.ny * g.nx) 1048576) p.1 in
@@ -204,7 +202,7 @@ sized-allowed g a b =
     (λ t. tt)
 
 -- a grid that is made has sides that every function of this crate takes
-pub new_sides : (lo hi : Vec2) (cell margin : Float) (g : Grid) → new_grid lo hi cell margin ≡ Of g → Sides g
+pub new_sides : (lo hi : Vec2) (cell margin : Float) (g : Grid) → new_grid lo hi cell margin ≡ Ok g → Sides g
 unfolding new_grid grid_of
 new_sides lo hi cell margin g e =
-    subst Allowed e (by_test Allowed (fit_of lo hi cell) (sized_of (grid_of lo hi cell margin)) Unfit (λ t. sized-allowed (grid_of lo hi cell margin) (omega arith) (omega arith)) (λ t. tt))
+    subst Allowed e (by_test Allowed (fit_of lo hi cell) (sized_of (grid_of lo hi cell margin)) (Err Unfit) (λ t. sized-allowed (grid_of lo hi cell margin) (omega arith) (omega arith)) (λ t. tt))

@@ -1,9 +1,11 @@
 -- What clearing with a log and undoing do to the map, the log and the count, of the definitions alone. Assumes nothing.
+use Rattle.raster.specs.Disk.{Span}
 use mathlib.Core.Path.{◌≡◌, refl, sym, ap, ◌∙◌, subst}
 use mathlib.Core.List.{List, [], ◌∷◌}
 use Prim.Native.Nat.{ℕ, zero, suc, ◌+◌, ◌-◌, ◌≤◌, ◌<◌}
 use native.Mathlib.Omega.{arith}
-use lib.ListN.{length, get_or, set, length-set}
+use lib.ListN.{length, get_or, set, take, length-set, length-take}
+use Rattle.std.proofs.lemmas.List.{get_or-take}
 use lib.Seq.{get_or-set_same, get_or-set_other, set-set, set-get_or}
 use lib.Dec.{eqb}
 use lib.Ieee.{Float}
@@ -15,9 +17,8 @@ use Rattle.loops.proofs.CellLaws.{ones-set}
 use Rattle.loops.proofs.LoopLaws.{loop_more, loop-none, loop_keeps, Going}
 use Rattle.geom.specs.declared.vec2.Vec2.{Vec2}
 use Rattle.raster.specs.Sweep.{over_span, crescent_at}
-use Rattle.raster.specs.Log.{Stock, st, Ready, taken, clear_cell, clear_after, put_back, take_out, undone, redone}
+use Rattle.raster.specs.Log.{Stock, st, Ready, Logged, written, taken, clear_cell, clear_after, put_back, take_out, undone, redone}
 use Rattle.raster.specs.declared.grid.Grid.{Grid}
-use Rattle.raster.specs.declared.disk.Span.{Span}
 use Rattle.raster.proofs.SweepLaws.{keep_run, keep_span, keep-crescent-rows, keep-crescent}
 
 -- ---- one cell
@@ -170,6 +171,38 @@ undone-long l a e m = loop_keeps (put_back l) a (λ (r : List ℕ). length r ≡
 
 pub redone-long : (l : List ℕ) (a e : ℕ) (m : List ℕ) → length (loop (take_out l) a e m) ≡ length m
 redone-long l a e m = loop_keeps (take_out l) a (λ (r : List ℕ). length r ≡ length m) e (λ i r b c h. length-set r (get_or l i 0) 0 ∙ h) m refl
+
+-- ---- the logged cells as a slice of their own
+
+-- the first n entries are written as from the whole log
+turns-front : (l : List ℕ) (v n k : ℕ) (m : List ℕ) → k ≤ n → turns (written (take n l) v) 0 k m ≡ turns (written l v) 0 k m
+unfolding turns
+turns-front l v n zero m h = refl
+turns-front l v n (suc k) m h =
+    ap (λ (i : ℕ). set (turns (written (take n l) v) 0 k m) i v) (let b : 0 + k < n = omega arith in get_or-take n l (0 + k) 0 b)
+    ∙ ap (λ (t : List ℕ). set t (get_or l (0 + k) 0) v) (turns-front l v n k m (omega arith))
+
+written-front : (l : List ℕ) (v n : ℕ) (m : List ℕ) → n ≤ length l → loop (written (take n l) v) 0 (length (take n l)) m ≡ loop (written l v) 0 n m
+unfolding loop
+written-front l v n m h =
+    ap (λ (k : ℕ). turns (written (take n l) v) 0 (k - 0) m) (let e : length (take n l) ≡ n = omega (arith, length-take n l) in e)
+    ∙ turns-front l v n (n - 0) m (omega arith)
+
+module _ (log : List ℕ) (n : ℕ) where
+  pub undone-front : (k : ℕ) (m : List ℕ) → Logged log n k → undone (take n log) 0 (length (take n log)) m ≡ undone log 0 n m
+  unfolding undone
+  undone-front k m h = written-front log 1 n m h.within
+
+  pub redone-front : (k : ℕ) (m : List ℕ) → Logged log n k → redone (take n log) 0 (length (take n log)) m ≡ redone log 0 n m
+  unfolding redone
+  redone-front k m h = written-front log 0 n m h.within
+
+  pub front-long : (k : ℕ) → Logged log n k → n ≡ length (take n log)
+  front-long k h = let w = h.within in omega (arith, length-take n log)
+
+  pub logged-front : (k : ℕ) → Logged log n k → Logged (take n log) (length (take n log)) k
+  logged-front k h = let w = h.within in let long : length (take n log) ≡ n = omega (arith, length-take n log) in
+      record { within = omega arith; cell = λ i b. let c : i < n = omega arith in subst (λ (x : ℕ). x < k) (sym (get_or-take n log i 0 c)) (h.cell i c) }
 
 pub le_same : {a n m : ℕ} → a ≤ n → m ≡ n → a ≤ m
 le_same h e = omega arith

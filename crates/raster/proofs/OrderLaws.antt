@@ -1,5 +1,6 @@
 -- Cells are visited in the order of their numbers, each once: so a crescent's log ascends, and a disk counts the stock cells that clearing it removes.
 -- Assumes nothing.
+use Rattle.std.specs.Prelude.{None, Some}
 use mathlib.Core.Path.{◌≡◌, refl, sym, ap, ◌∙◌}
 use mathlib.Core.Bool.{Bool, true, false, ◌&&◌, ◌||◌}
 use mathlib.Core.List.{List}
@@ -22,14 +23,12 @@ use Rattle.floats.proofs.OrderLaws.{not_lt_le}
 use Rattle.floats.proofs.IndexLaws.{cut_mono}
 use Rattle.raster.specs.Grid.{Sides}
 use Rattle.numbers.specs.Cast.{float}
-use Rattle.raster.specs.Disk.{row_y, cell_at, first_from, cols_of, chord_of, disk_row, crescent_row, rows_of, left_of, right_of, less, two}
+use Rattle.raster.specs.Disk.{Span, row_y, cell_at, first_from, cols_of, chord_of, disk_row, crescent_row, rows_of, left_of, right_of, less, two}
 use Rattle.raster.specs.Sweep.{over_span, disk_at, over_disk, crescent_at, over_crescent}
 use Rattle.raster.specs.Stock.{Cleared, cl, drop_cell, clear_disk, tally, count_disk}
 use Rattle.raster.specs.Log.{Stock, Ready, taken, clear_cell, clear_after}
 use Rattle.raster.specs.declared.grid.Grid.{Grid}
 use Rattle.raster.specs.declared.disk.Crescent.{Crescent}
-use Rattle.raster.specs.declared.disk.Span.{Span}
-use Rattle.raster.specs.declared.disk.Span.TheVariants.{Empty, Cols}
 use Rattle.raster.proofs.RowLaws.{InRow, first-number, first_below, or_last, next_base, disk_in, crescent_in}
 use Rattle.raster.proofs.SweepLaws.{disk_image}
 use Rattle.raster.proofs.StockLaws.{bit-one, bit-none, clear-disk-removed}
@@ -51,8 +50,8 @@ module _ {S : Type 0} (f : ℕ → S → S) (P : ℕ → S → Type 0) (mono : (
 module _ {S : Type 0} (f : ℕ → S → S) (P : ℕ → S → Type 0) (mono : (k l : ℕ) (s : S) → k ≤ l → P k s → P l s) (each : (k : ℕ) (s : S) → P k s → P (k + 1) (f k s)) where
   span_rise : (base nx : ℕ) (p : Span) (s : S) → InRow nx p → P base s → P (base + nx) (over_span f base p s)
   unfolding over_span
-  span_rise base nx Empty s r h = mono base (base + nx) s (omega arith) h
-  span_rise base nx (Cols a b) s r h =
+  span_rise base nx None s r h = mono base (base + nx) s (omega arith) h
+  span_rise base nx (Some (a, b)) s r h =
       loop-rise f P mono each (base + a) (base + b + 1) (base + nx) s (omega (arith, r.0)) (omega (arith, r.1)) (mono base (base + a) s (omega arith) h)
 
   row_mono : (nx k l : ℕ) (s : S) → k ≤ l → P (k * nx) s → P (l * nx) s
@@ -118,8 +117,8 @@ count-disk-is g sides c r m = count-is-removed g sides c r m ∙ clear-disk-remo
 
 -- the span's first column is not after its last
 abbrev pub Straight : Span → Type 0
-Straight Empty = Unit
-Straight (Cols a b) = a ≤ b
+Straight None = Unit
+Straight (Some (a, b)) = a ≤ b
 
 or_middle : (a b c : Bool) → a || (b || c) ≡ false → b ≡ false
 or_middle true b c e = never (sym e)
@@ -129,7 +128,7 @@ or_middle false false c e = refl
 cols_straight : (i0 i1 : Float) (nx : ℕ) → 0 < nx → nx ≤ 4096 → is_nan i0 ≡ false → is_nan i1 ≡ false → Straight (cols_of i0 i1 nx)
 unfolding cols_of
 cols_straight i0 i1 nx w h p q =
-    by_test Straight (lt i1 f0 || (lt i1 i0 || le (float nx) i0)) Empty (Cols (to_unsigned 64 i0) (min (to_unsigned 64 i1) (nx - 1))) (λ t. tt)
+    by_test Straight (lt i1 f0 || (lt i1 i0 || le (float nx) i0)) None (Some (to_unsigned 64 i0, min (to_unsigned 64 i1) (nx - 1))) (λ t. tt)
     (λ t.
     let up : to_unsigned 64 i0 ≤ to_unsigned 64 i1 = cut_mono 64 i0 i1 (not_lt_le i0 i1 p q (or_middle (lt i1 f0) (lt i1 i0) (le (float nx) i0) t)) in
     let below : to_unsigned 64 i0 < nx = first_below nx i0 w h p (or_last (lt i1 f0) (lt i1 i0) (le (float nx) i0) t) in
@@ -145,38 +144,38 @@ disk_straight g c r j s q =
     let h2 = sub binary64 (mul binary64 r r) (mul binary64 dy dy) in
     let u = cell_at (sub binary64 c.x (root_of h2)) g.origin.x g.cell in
     let i1 = floor_of (cell_at (add binary64 c.x (root_of h2)) g.origin.x g.cell) in
-    by_test Straight (lt h2 f0) Empty (cols_of (first_from u) i1 g.nx) (λ t. tt) (λ t. cols_straight (first_from u) i1 g.nx s.wide s.columns (first-number u) q)
+    by_test Straight (lt h2 f0) None (cols_of (first_from u) i1 g.nx) (λ t. tt) (λ t. cols_straight (first_from u) i1 g.nx s.wide s.columns (first-number u) q)
 
 -- one span ends before the other begins
 abbrev Before : Span → Span → Type 0
-Before Empty q = Unit
-Before (Cols a b) Empty = Unit
-Before (Cols a b) (Cols c d) = (a ≤ b) × (b < c)
+Before None q = Unit
+Before (Some (a, b)) None = Unit
+Before (Some (a, b)) (Some (c, d)) = (a ≤ b) × (b < c)
 
 abbrev Apart : Crescent → Type 0
 Apart p = Before p.left p.right
 
-before-empty : (s : Span) → Before s Empty
-before-empty Empty = tt
-before-empty (Cols a b) = tt
+before-empty : (s : Span) → Before s None
+before-empty None = tt
+before-empty (Some (a, b)) = tt
 
 less-apart : (s q : Span) → Straight q → Apart (less s q)
 unfolding less left_of right_of
-less-apart Empty q h = tt
-less-apart (Cols i0 i1) Empty h = tt
-less-apart (Cols i0 i1) (Cols p0 p1) h =
-    by_test Apart (leb p0 i1 && leb i0 p1) (two (left_of i0 p0) (right_of p1 i1)) (two (Cols i0 i1) Empty)
-    (λ t. by_test (λ (l : Span). Before l (right_of p1 i1)) (ltb i0 p0) (Cols i0 (p0 - 1)) Empty
-    (λ u. by_test (Before (Cols i0 (p0 - 1))) (ltb p1 i1) (Cols (p1 + 1) i1) Empty (λ w. omega (arith, ltb-true i0 p0 u)) (λ w. tt))
+less-apart None q h = tt
+less-apart (Some (i0, i1)) None h = tt
+less-apart (Some (i0, i1)) (Some (p0, p1)) h =
+    by_test Apart (leb p0 i1 && leb i0 p1) (two (left_of i0 p0) (right_of p1 i1)) (two (Some (i0, i1)) None)
+    (λ t. by_test (λ (l : Span). Before l (right_of p1 i1)) (ltb i0 p0) (Some (i0, p0 - 1)) None
+    (λ u. by_test (Before (Some (i0, p0 - 1))) (ltb p1 i1) (Some (p1 + 1, i1)) None (λ w. omega (arith, ltb-true i0 p0 u)) (λ w. tt))
     (λ u. tt))
     (λ t. tt)
 
 module _ {S : Type 0} (f : ℕ → S → S) (P : ℕ → S → Type 0) (mono : (k l : ℕ) (s : S) → k ≤ l → P k s → P l s) (each : (k : ℕ) (s : S) → P k s → P (k + 1) (f k s)) where
   spans-rise : (base nx : ℕ) (p q : Span) (s : S) → InRow nx p → InRow nx q → Before p q → P base s → P (base + nx) (over_span f base q (over_span f base p s))
   unfolding over_span
-  spans-rise base nx Empty q s a b w h = span_rise f P mono each base nx q s b h
-  spans-rise base nx (Cols a b) Empty s r t w h = span_rise f P mono each base nx (Cols a b) s r h
-  spans-rise base nx (Cols a b) (Cols c d) s r t w h =
+  spans-rise base nx None q s a b w h = span_rise f P mono each base nx q s b h
+  spans-rise base nx (Some (a, b)) None s r t w h = span_rise f P mono each base nx (Some (a, b)) s r h
+  spans-rise base nx (Some (a, b)) (Some (c, d)) s r t w h =
       loop-rise f P mono each (base + c) (base + d + 1) (base + nx) _ (omega (arith, t.0)) (omega (arith, t.1))
       (mono (base + b + 1) (base + c) _ (omega (arith, w.1))
       (loop-rise f P mono each (base + a) (base + b + 1) (base + b + 1) s (omega (arith, w.0)) (omega arith) (mono base (base + a) s (omega arith) h)))

@@ -1,4 +1,6 @@
 -- Turns that change cells one by one, clearing or setting them: which cells a loop of them changes, and which numbers a span names. Assumes nothing.
+use Rattle.std.specs.Prelude.{None, Some}
+use Rattle.raster.specs.Disk.{Span}
 use mathlib.Core.Path.{◌≡◌, refl, sym, ap, ◌∙◌}
 use mathlib.Core.Bool.{Bool, true, false, cond, ◌||◌}
 use mathlib.Core.List.{List}
@@ -11,8 +13,6 @@ use Rattle.loops.specs.Loop.{turns, loop, or_at, any}
 use Rattle.loops.proofs.Cases.{by_cases, or_left, or_right}
 use Rattle.loops.proofs.CellLaws.{same_row, row_below}
 use Rattle.raster.specs.Sweep.{over_span}
-use Rattle.raster.specs.declared.disk.Span.{Span}
-use Rattle.raster.specs.declared.disk.Span.TheVariants.{Empty, Cols}
 use Rattle.raster.proofs.RowLaws.{InRow}
 
 -- ---- one of the numbers from a on below e
@@ -44,22 +44,22 @@ any_none p a e h = turns-none p a (e - a) (λ i b c. h i b (omega arith))
 -- ---- the numbers that a span names, its row's first cell having the number base
 
 abbrev pub in_span : ℕ → Span → ℕ → Bool
-in_span base Empty k = false
-in_span base (Cols a b) k = any (λ i. eqb k i) (base + a) (base + b + 1)
+in_span base None k = false
+in_span base (Some (a, b)) k = any (λ i. eqb k i) (base + a) (base + b + 1)
 
 -- column i is in the span
 abbrev pub Has : ℕ → Span → Type 0
-Has i Empty = ⊥
-Has i (Cols a b) = (a ≤ i) × (i ≤ b)
+Has i None = ⊥
+Has i (Some (a, b)) = (a ≤ i) × (i ≤ b)
 
 pub span_has : (base i : ℕ) (p : Span) → Has i p → in_span base p (base + i) ≡ true
-span_has base i Empty h = absurd h
-span_has base i (Cols a b) h = any_at (λ q. eqb (base + i) q) (base + a) (base + b + 1) (base + i) (omega (arith, h.0)) (omega (arith, h.1)) (eq-eqb (base + i) (base + i) refl)
+span_has base i None h = absurd h
+span_has base i (Some (a, b)) h = any_at (λ q. eqb (base + i) q) (base + a) (base + b + 1) (base + i) (omega (arith, h.0)) (omega (arith, h.1)) (eq-eqb (base + i) (base + i) refl)
 
 -- cell (i, j) is in a span of row j' only where the rows are one and the column is in it
 pub span_lacks : (nx j j' i : ℕ) (p : Span) → InRow nx p → i < nx → (j ≡ j' → Has i p → ⊥) → in_span (j' * nx) p (j * nx + i) ≡ false
-span_lacks nx j j' i Empty r h f = refl
-span_lacks nx j j' i (Cols a b) r h f =
+span_lacks nx j j' i None r h f = refl
+span_lacks nx j j' i (Some (a, b)) r h f =
     any_none (λ q. eqb (j * nx + i) q) (j' * nx + a) (j' * nx + b + 1)
     (λ q l m. ne_eqb (j * nx + i) q (λ e.
     let d : j ≡ j' = same_row nx j j' i (q - j' * nx) h (omega (arith, r.0, r.1)) (omega arith) in
@@ -68,8 +68,8 @@ span_lacks nx j j' i (Cols a b) r h f =
 
 -- no span of a row below ny names a number from ny * nx on
 pub span_beyond : (nx ny j k : ℕ) (p : Span) → InRow nx p → j < ny → ny * nx ≤ k → in_span (j * nx) p k ≡ false
-span_beyond nx ny j k Empty r h l = refl
-span_beyond nx ny j k (Cols a b) r h l =
+span_beyond nx ny j k None r h l = refl
+span_beyond nx ny j k (Some (a, b)) r h l =
     any_none (λ q. eqb k q) (j * nx + a) (j * nx + b + 1) (λ q u w. ne_eqb k q (λ e. let z : ⊥ = omega (arith, row_below j ny nx k h l, r.0, r.1) in z))
 
 -- ---- which cells are changed. A changed cell x becomes v x
@@ -116,5 +116,5 @@ module _ (v : ℕ → ℕ) (idem : (x : ℕ) → v (v x) ≡ v x) (n : ℕ) wher
   pub changes_span : (K : List ℕ → Type 0) (f : ℕ → List ℕ → List ℕ) → ((i : ℕ) (s : List ℕ) → K s → K (f i s))
       → ((i : ℕ) (s : List ℕ) → K s → Changes v n (λ k. eqb k i) s (f i s)) → (base : ℕ) (p : Span) (s : List ℕ) → K s → Changes v n (in_span base p) s (over_span f base p s)
   unfolding over_span Changes
-  changes_span K f keep each base Empty s q k h = refl
-  changes_span K f keep each base (Cols a b) s q k h = unfold Changes in (changes_loop K f keep (λ i k. eqb k i) each (base + a) (base + b + 1) s q k h)
+  changes_span K f keep each base None s q k h = refl
+  changes_span K f keep each base (Some (a, b)) s q k h = unfold Changes in (changes_loop K f keep (λ i k. eqb k i) each (base + a) (base + b + 1) s q k h)

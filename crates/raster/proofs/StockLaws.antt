@@ -1,10 +1,18 @@
 -- Counting and clearing on the map: what is removed is what is stock no more. Assumes nothing.
+use Rattle.std.specs.Prelude.{◌==◌}
+use Rattle.std.specs.List.{count_by}
+use Rattle.std.proofs.lemmas.List.Recursion.{is_sum_by}
+use Rattle.std.specs.Prelude.{None, Some}
+use Rattle.raster.specs.Disk.{Span}
+use mathlib.Core.Bool.{Bool, cond}
 use mathlib.Core.Path.{◌≡◌, refl, sym, ap, ◌∙◌, subst}
-use mathlib.Core.List.{List, [], ◌∷◌}
+use mathlib.Core.List.{List, [], ◌∷◌, ◌++◌}
 use Prim.Native.Nat.{ℕ, zero, suc, ◌+◌, ◌-◌, ◌≤◌, ◌<◌}
 use native.Mathlib.Omega.{arith}
 use native.Mathlib.Numerals.{add-one}
-use lib.ListN.{length, get_or, set, take, length-set, length-take}
+use lib.ListN.{length, get_or, set, take, drop, length-set, length-take, length-drop, take-append-drop}
+use borrow.Rule.Slice.PartMut.{put_mid}
+use Rattle.std.proofs.lemmas.List.{get_or-drop, get_or_append_left, get_or-append_right, set-append_left, set-append_right}
 use lib.Seq.{take_all}
 use lib.Dec.{eqb}
 use lib.Ieee.{Float}
@@ -15,15 +23,18 @@ use Rattle.loops.proofs.Cases.{by_test}
 use Rattle.loops.proofs.CellLaws.{ones-set, ones_le}
 use Rattle.loops.proofs.LoopLaws.{Going, loop_keeps}
 use Rattle.geom.specs.declared.vec2.Vec2.{Vec2}
-use Rattle.raster.specs.Sweep.{over_span, disk_at}
+use Rattle.raster.specs.Sweep.{over_span, disk_at, Inside, cells_of}
 use Rattle.raster.specs.Stock.{Cleared, cl, dropped, drop_cell, clear_disk, Fair, tally, keep_cell}
 use Rattle.raster.specs.declared.grid.Grid.{Grid}
-use Rattle.raster.specs.declared.disk.Span.{Span}
-use Rattle.raster.specs.declared.disk.Span.TheVariants.{Empty, Cols}
 use Rattle.raster.proofs.RowLaws.{InRow}
-use Rattle.raster.proofs.SweepLaws.{keep_run, keep-disk-rows, keep-disk}
+use Rattle.raster.proofs.SweepLaws.{cells-lie, span-cells, keep_run, keep-disk-rows, keep-disk}
 
 -- ---- counting
+
+-- the cells that are stock, as the library counts them
+pub ones-count : (m : List ℕ) → ones m ≡ count_by (λ x. x == 1) m
+unfolding ones
+ones-count m = is_sum_by ones bit refl (λ x xs. refl) m
 
 pub bit-one : (x : ℕ) → x ≡ 1 → bit x ≡ 1
 bit-one x e = rw (eq-eqb x 1 e)
@@ -69,6 +80,21 @@ unfolding turns tally
 turns-most m a zero c = omega arith
 turns-most m a (suc n) c = omega (arith, turns-most m a n c, bit_le (get_or m (a + n) 0))
 
+-- what turns count is what the cells hold as a slice of their own
+turns-tally : (m : List ℕ) (a n c : ℕ) → a + n ≤ length m → turns (tally m) a n c ≡ c + ones (take n (drop a m))
+unfolding turns tally ones
+turns-tally m a zero c h = omega arith
+turns-tally m a (suc n) c h =
+    let one = more_taken (drop a m) n (omega (arith, length-drop a m)) in
+    let at = get_or-drop a m n 0 in
+    omega (arith, turns-tally m a n c (omega arith), ap bit at, one)
+
+pub span-counted : (m : List ℕ) (base n : ℕ) (p : Span) (s : ℕ × ℕ) (c : ℕ) → Inside base (length m) p → s ≡ cells_of base p → c ≡ ones (take (s.1 - s.0) (drop s.0 m)) → n + c ≡ over_span (tally m) base p n
+unfolding loop
+span-counted m base n p s c h e k =
+    let w = cells-lie base (length m) p s e h in
+    span-cells (tally m) base p s n (n + c) e (ap (λ (x : ℕ). n + x) k ∙ sym (turns-tally m s.0 (s.1 - s.0) n (omega (arith, w.0, w.1))))
+
 -- no more is counted than there are cells
 pub run-most : (m : List ℕ) (a e c : ℕ) → loop (tally m) a e c ≤ c + (e - a)
 unfolding loop
@@ -76,8 +102,8 @@ run-most m a e c = turns-most m a (e - a) c
 
 pub span_most : (m : List ℕ) (base nx c : ℕ) (p : Span) → InRow nx p → over_span (tally m) base p c ≤ c + nx
 unfolding over_span
-span_most m base nx c Empty h = omega arith
-span_most m base nx c (Cols a b) h = omega (arith, run-most m (base + a) (base + b + 1) c, h.1)
+span_most m base nx c None h = omega arith
+span_most m base nx c (Some (a, b)) h = omega (arith, run-most m (base + a) (base + b + 1) c, h.1)
 
 -- nor in the rows so far
 pub row-most : (m : List ℕ) (base nx n n' : ℕ) (p : Span) → InRow nx p → n ≤ base → n' ≡ over_span (tally m) base p n → n' ≤ base + nx
@@ -114,6 +140,58 @@ fair_left s t f h = record { most = omega (arith, f.most, h.sum, h.long) }
 pub fair_none : (m : List ℕ) → Fair (cl m 0)
 fair_none m = record { most = omega (arith, ones_le m) }
 
+pub cl_eq : {m m' : List ℕ} {n n' : ℕ} → m ≡ m' → n ≡ n' → cl m n ≡ cl m' n'
+cl_eq p q = λ i. record { cells = p i; removed = q i }
+
+turns-left : (s : Cleared) (k : ℕ) → Left s (turns drop_cell 0 k s)
+unfolding turns
+turns-left s zero = left-none s
+turns-left s (suc k) = left-cell s (0 + k) (turns drop_cell 0 k s) (turns-left s k)
+
+-- ---- cells cleared as a slice of their own
+
+module _ (a : ℕ) (front rest : List ℕ) (A : length front ≡ a) where
+  -- n cells and those of t that were cleared, with t's cells between the others of the map
+  abbrev with : ℕ → Cleared → Cleared
+  with n t = cl (front ++ (t.cells ++ rest)) (n + t.removed)
+
+  with-drop : (n k : ℕ) (t : Cleared) → k < length t.cells → with n (drop_cell k t) ≡ drop_cell (a + k) (with n t)
+  unfolding drop_cell
+  with-drop n k t h =
+      let q : a ≤ a + k = omega arith in
+      let at : get_or (front ++ (t.cells ++ rest)) (a + k) 0 ≡ get_or t.cells k 0 =
+      get_or-append_right front (t.cells ++ rest) a (a + k) 0 A q ∙ ap (λ (i : ℕ). get_or (t.cells ++ rest) i 0) (let z : a + k - a ≡ k = omega arith in z) ∙ get_or_append_left t.cells rest 0 k h in
+      let put : set (front ++ (t.cells ++ rest)) (a + k) 0 ≡ front ++ (set t.cells k 0 ++ rest) =
+      set-append_right front (t.cells ++ rest) a (a + k) 0 A q ∙ ap (λ (i : ℕ). front ++ set (t.cells ++ rest) i 0) (let z : a + k - a ≡ k = omega arith in z) ∙ ap (λ (l : List ℕ). front ++ l) (set-append_left t.cells rest k 0 h) in
+      by_test (λ (u : Cleared). with n u ≡ cond (eqb (get_or (front ++ (t.cells ++ rest)) (a + k) 0) 1) (dropped (a + k) (with n t)) (with n t)) (eqb (get_or t.cells k 0) 1) (dropped k t) t
+      (λ e. sym (ap (λ (x : ℕ). cond (eqb x 1) (dropped (a + k) (with n t)) (with n t)) at ∙ ap (λ (b : Bool). cond b (dropped (a + k) (with n t)) (with n t)) e ∙ cl_eq put (omega arith)))
+      (λ e. sym (ap (λ (x : ℕ). cond (eqb x 1) (dropped (a + k) (with n t)) (with n t)) at ∙ ap (λ (b : Bool). cond b (dropped (a + k) (with n t)) (with n t)) e))
+
+  with-turns : (n k : ℕ) (t : Cleared) → k ≤ length t.cells → with n (turns drop_cell 0 k t) ≡ turns drop_cell a k (with n t)
+  unfolding turns
+  with-turns n zero t h = refl
+  with-turns n (suc k) t h =
+      let u = turns drop_cell 0 k t in
+      let long : length u.cells ≡ length t.cells = (turns-left t k).long in
+      with-drop n (0 + k) u (omega arith) ∙ ap (λ (i : ℕ). drop_cell i (with n u)) (let z : a + (0 + k) ≡ a + k = omega arith in z) ∙ ap (drop_cell (a + k)) (with-turns n k t (omega arith))
+
+-- what comes back of a slice of the map's cells that was cleared is what turns over them leave
+pub span-cleared : (m : List ℕ) (base n : ℕ) (p : Span) (s : ℕ × ℕ) (cells : List ℕ) (c : ℕ) → Inside base (length m) p → s ≡ cells_of base p
+    → cl cells c ≡ loop drop_cell 0 (length (take (s.1 - s.0) (drop s.0 m))) (cl (take (s.1 - s.0) (drop s.0 m)) 0) → cl (put_mid s.0 (s.1 - s.0) m cells) (n + c) ≡ over_span drop_cell base p (cl m n)
+unfolding loop
+span-cleared m base n p s cells c h e k =
+    let w = cells-lie base (length m) p s e h in
+    let a = s.0 in
+    let q = s.1 - s.0 in
+    let part = take q (drop a m) in
+    let rest = drop q (drop a m) in
+    let long : length part ≡ q = omega (arith, length-take q (drop a m), length-drop a m, w.0, w.1) in
+    let front : length (take a m) ≡ a = omega (arith, length-take a m, w.0, w.1) in
+    span-cells drop_cell base p s (cl m n) (cl (put_mid a q m cells) (n + c)) e
+    (ap (λ (t : Cleared). with a (take a m) rest front n t) (k ∙ ap (λ (x : ℕ). turns drop_cell 0 x (cl part 0)) (let z : length part - 0 ≡ q = omega arith in z))
+    ∙ with-turns a (take a m) rest front n q (cl part 0) (omega arith)
+    ∙ ap (turns drop_cell a q) (cl_eq (ap (λ (l : List ℕ). take a m ++ l) (take-append-drop q (drop a m)) ∙ take-append-drop a m) (omega arith)))
+
 -- removed is what was stock before less what is stock after
 pub clear-disk-left : (g : Grid) (c : Vec2) (r : Float) (m : List ℕ) → Left (cl m 0) (clear_disk g c r m)
 unfolding clear_disk
@@ -123,9 +201,6 @@ pub clear-disk-removed : (g : Grid) (c : Vec2) (r : Float) (m : List ℕ) → (c
 clear-disk-removed g c r m = omega (arith, (clear-disk-left g c r m).sum)
 
 -- ---- for the proofs of the code
-
-pub cl_eq : {m m' : List ℕ} {n n' : ℕ} → m ≡ m' → n ≡ n' → cl m n ≡ cl m' n'
-cl_eq p q = λ i. record { cells = p i; removed = q i }
 
 pub drop-taken : (k : ℕ) (s : Cleared) → get_or s.cells k 0 ≡ 1 → dropped k s ≡ drop_cell k s
 unfolding drop_cell

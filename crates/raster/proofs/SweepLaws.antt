@@ -1,19 +1,22 @@
 -- Turns over the cells of a span, a disk and a crescent: what each turn keeps, they keep, and what each shows of the state, they show. Assumes nothing.
-use mathlib.Core.Path.{◌≡◌, refl, ap, ◌∙◌, subst}
-use Prim.Native.Nat.{ℕ, zero, suc, ◌+◌, ◌-◌, ◌*◌, ◌<◌}
+use Rattle.std.specs.Prelude.{None, Some}
+use mathlib.Core.Path.{◌≡◌, refl, sym, ap, ◌∙◌, subst}
+use Prim.Native.Nat.{ℕ, zero, suc, ◌+◌, ◌-◌, ◌*◌, ◌≤◌, ◌<◌}
 use native.Mathlib.Numerals.{add-one}
 use native.Mathlib.Omega.{arith}
 use lib.Ieee.{Float, binary64, mul}
 use Rattle.loops.specs.Loop.{turns, loop}
+use borrow.Author.Tests.{le-leb, lt-leb, leb-true}
+use Rattle.std.proofs.lemmas.Bool.{leb-false}
+use lib.Dec.{leb}
+use Rattle.loops.proofs.Cases.{by_test}
 use Rattle.loops.proofs.LoopLaws.{loop_more, loop_keeps}
 use Rattle.geom.specs.declared.vec2.Vec2.{Vec2}
-use Rattle.raster.specs.Disk.{chord_of, disk_row, less, crescent_row, rows_of}
-use Rattle.raster.specs.Sweep.{over_span, disk_at, over_disk, crescent_at, over_crescent, Inside}
+use Rattle.raster.specs.Disk.{Span, chord_of, disk_row, less, crescent_row, rows_of}
+use Rattle.raster.specs.Sweep.{over_span, disk_at, over_disk, crescent_at, over_crescent, Inside, cells_of}
 use Rattle.raster.specs.declared.grid.Grid.{Grid}
 use Rattle.raster.specs.declared.disk.Crescent.{Crescent}
 use Rattle.raster.specs.declared.disk.Rows.{Rows}
-use Rattle.raster.specs.declared.disk.Span.{Span}
-use Rattle.raster.specs.declared.disk.Span.TheVariants.{Empty, Cols}
 
 -- one more turn of a loop from 0
 pub loop_suc : {S : Type 0} (f : ℕ → S → S) (e : ℕ) (s : S) → f e (loop f 0 e s) ≡ loop f 0 (suc e) s
@@ -27,8 +30,8 @@ module _ {S : Type 0} (f : ℕ → S → S) (P : S → Type 0) (each : (k : ℕ)
 
   pub keep_span : (base : ℕ) (p : Span) (t : S) → P t → P (over_span f base p t)
   unfolding over_span
-  keep_span base Empty t h = h
-  keep_span base (Cols a b) t h = keep_run (base + a) (base + b + 1) t h
+  keep_span base None t h = h
+  keep_span base (Some (a, b)) t h = keep_run (base + a) (base + b + 1) t h
 
   pub keep-disk-at : (g : Grid) (c : Vec2) (r : Float) (j : ℕ) (t : S) → P t → P (disk_at f g c r j t)
   unfolding disk_at
@@ -68,8 +71,8 @@ module _ {S T : Type 0} (h : S → T) (f : ℕ → S → S) (f' : ℕ → T → 
 module _ {S T : Type 0} (h : S → T) (f : ℕ → S → S) (f' : ℕ → T → T) (each : (i : ℕ) (s : S) → h (f i s) ≡ f' i (h s)) where
   pub span_image : (base : ℕ) (p : Span) (s : S) → h (over_span f base p s) ≡ over_span f' base p (h s)
   unfolding over_span
-  span_image base Empty s = refl
-  span_image base (Cols a b) s = loop_image h f f' each (base + a) (base + b + 1) s
+  span_image base None s = refl
+  span_image base (Some (a, b)) s = loop_image h f f' each (base + a) (base + b + 1) s
 
   disk-at_image : (g : Grid) (c : Vec2) (r : Float) (j : ℕ) (s : S) → h (disk_at f g c r j s) ≡ disk_at f' g c r j (h s)
   unfolding disk_at
@@ -92,15 +95,55 @@ module _ {S T : Type 0} (h : S → T) (f : ℕ → S → S) (f' : ℕ → T → 
 
 -- ---- for the proofs of the code
 
-pub inside_cols : (base n : ℕ) (p : Span) (a b : ℕ) → p ≡ Cols a b → Inside base n p → (base + a < n) × (base + b < n)
+pub inside_cols : (base n : ℕ) (p : Span) (a b : ℕ) → p ≡ Some (a, b) → Inside base n p → (base + a < n) × (base + b < n)
 inside_cols base n p a b e h = subst (Inside base n) e h
 
+pub inside_mono : (base n n' : ℕ) (p : Span) → n ≤ n' → Inside base n p → Inside base n' p
+inside_mono base n n' None k h = tt
+inside_mono base n n' (Some (a, b)) k h = (omega (arith, h.0), omega (arith, h.1))
+
+-- some of n cells, in their order
+abbrev Lie : ℕ → ℕ × ℕ → Type 0
+Lie n s = (s.0 ≤ s.1) × (s.1 ≤ n)
+
+lie : (base n : ℕ) (p : Span) → Inside base n p → Lie n (cells_of base p)
+unfolding cells_of
+lie base n None h = (omega arith, omega arith)
+lie base n (Some (a, b)) h = by_test (Lie n) (leb a b) (base + a, base + b + 1) (0, 0) (λ t. (omega (arith, leb-true a b t), omega (arith, h.1))) (λ t. (omega arith, omega arith))
+
+pub cells-lie : (base n : ℕ) (p : Span) (s : ℕ × ℕ) → s ≡ cells_of base p → Inside base n p → (s.0 ≤ s.1) × (s.1 ≤ n)
+cells-lie base n p s e h = subst (Lie n) (sym e) (lie base n p h)
+
+pub cells-none : (base : ℕ) (p : Span) → p ≡ None → (0, 0) ≡ cells_of base p
+unfolding cells_of
+cells-none base p e = rw e
+
+module _ (base : ℕ) (p : Span) (a b : ℕ) (e : p ≡ Some (a, b)) where
+  pub cells-some : a ≤ b → (base + a, base + b + 1) ≡ cells_of base p
+  unfolding cells_of
+  cells-some h = rw (e, le-leb a b h)
+
+  pub cells-crossed : b < a → (0, 0) ≡ cells_of base p
+  unfolding cells_of
+  cells-crossed h = rw (e, lt-leb a b h)
+
 module _ {S : Type 0} (f : ℕ → S → S) where
-  pub span_none : (base : ℕ) (p : Span) (s : S) → p ≡ Empty → s ≡ over_span f base p s
+  -- the turns over a span are those over its cells
+  pub span-cells : (base : ℕ) (p : Span) (s : ℕ × ℕ) (t u : S) → s ≡ cells_of base p → u ≡ loop f s.0 s.1 t → u ≡ over_span f base p t
+  unfolding over_span cells_of loop turns
+  span-cells base p s t u e h = h ∙ ap (λ (q : ℕ × ℕ). loop f q.0 q.1 t) e ∙ go p
+    where
+      go : (p : Span) → loop f (cells_of base p).0 (cells_of base p).1 t ≡ over_span f base p t
+      go None = refl
+      go (Some (a, b)) =
+          by_test (λ (q : ℕ × ℕ). loop f q.0 q.1 t ≡ loop f (base + a) (base + b + 1) t) (leb a b) (base + a, base + b + 1) (0, 0) (λ x. refl)
+          (λ x. ap (λ (k : ℕ). turns f (base + a) k t) (let y = leb-false a b x in let z : 0 ≡ base + b + 1 - (base + a) = omega arith in z))
+
+  pub span_none : (base : ℕ) (p : Span) (s : S) → p ≡ None → s ≡ over_span f base p s
   unfolding over_span
   span_none base p s e = rw e
 
-  pub span_cols : (base : ℕ) (p : Span) (a b : ℕ) (s t : S) → p ≡ Cols a b → t ≡ loop f (base + a) (base + b + 1) s → t ≡ over_span f base p s
+  pub span_cols : (base : ℕ) (p : Span) (a b : ℕ) (s t : S) → p ≡ Some (a, b) → t ≡ loop f (base + a) (base + b + 1) s → t ≡ over_span f base p s
   unfolding over_span
   span_cols base p a b s t e h = rw e h
 

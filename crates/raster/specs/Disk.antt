@@ -1,5 +1,5 @@
 -- The cells of a row whose centres lie in a disk, the rows that a disk can reach, and the row of a crescent: the arithmetic of raster.rs, operation by operation. Definitions only.
-use Rattle.std.specs.Prelude.{ℕ, ◌+◌, ◌-◌, min, cond, ◌&&◌, ◌||◌, ltb, leb, Float}
+use Rattle.std.specs.Prelude.{ℕ, ◌+◌, ◌-◌, min, cond, ◌&&◌, ◌||◌, ltb, leb, Float, Option, None, Some}
 use Rattle.std.specs.Float.{binary64}
 use Rattle.std.specs.Float.Ieee.{to_unsigned, add, sub, mul, div, lt, le}
 use Rattle.numbers.specs.Order.{max_of}
@@ -13,8 +13,10 @@ use Rattle.numbers.specs.Cast.{float}
 use Rattle.raster.specs.declared.grid.Grid.{Grid}
 use Rattle.raster.specs.declared.disk.Rows.{Rows}
 use Rattle.raster.specs.declared.disk.Crescent.{Crescent}
-use Rattle.raster.specs.declared.disk.Span.{Span}
-use Rattle.raster.specs.declared.disk.Span.TheVariants.{Empty, Cols}
+
+-- columns from the first to the second, both in, or none
+abbrev pub Span : Type 0
+Span = Option (ℕ × ℕ)
 
 -- the y of row j's centres
 unfoldable pub row_y : Grid → ℕ → Float
@@ -30,7 +32,7 @@ first_from x = max_of (ceil_of x) f0
 
 -- the columns between two whole cell numbers, cut at the last column
 unfoldable pub cols_of : Float → Float → ℕ → Span
-cols_of i0 i1 nx = cond (lt i1 f0 || (lt i1 i0 || le (float nx) i0)) Empty (Cols (to_unsigned 64 i0) (min (to_unsigned 64 i1) (nx - 1)))
+cols_of i0 i1 nx = cond (lt i1 f0 || (lt i1 i0 || le (float nx) i0)) None (Some (to_unsigned 64 i0, min (to_unsigned 64 i1) (nx - 1)))
 
 -- the columns of row j in the disk at c, of the radius whose square is r2
 unfoldable pub chord_of : Grid → Vec2 → Float → ℕ → Span
@@ -40,7 +42,7 @@ chord_of g c r2 j =
     let h = root_of h2 in
     let i0 = first_from (cell_at (sub binary64 c.x h) g.origin.x g.cell) in
     let i1 = floor_of (cell_at (add binary64 c.x h) g.origin.x g.cell) in
-    cond (lt h2 f0) Empty (cols_of i0 i1 g.nx)
+    cond (lt h2 f0) None (cols_of i0 i1 g.nx)
 
 -- as in the Rust, which squares the radius in each row
 unfoldable pub disk_row : Grid → Vec2 → Float → ℕ → Span
@@ -60,16 +62,16 @@ two a b = record { left = a; right = b }
 
 -- the part of columns i0 to i1 before column p0, and the part after column p1
 unfoldable pub left_of : ℕ → ℕ → Span
-left_of i0 p0 = cond (ltb i0 p0) (Cols i0 (p0 - 1)) Empty
+left_of i0 p0 = cond (ltb i0 p0) (Some (i0, p0 - 1)) None
 
 unfoldable pub right_of : ℕ → ℕ → Span
-right_of p1 i1 = cond (ltb p1 i1) (Cols (p1 + 1) i1) Empty
+right_of p1 i1 = cond (ltb p1 i1) (Some (p1 + 1, i1)) None
 
 -- the first span without the second
 unfoldable pub less : Span → Span → Crescent
-less Empty q = two Empty Empty
-less (Cols i0 i1) Empty = two (Cols i0 i1) Empty
-less (Cols i0 i1) (Cols p0 p1) = cond (leb p0 i1 && leb i0 p1) (two (left_of i0 p0) (right_of p1 i1)) (two (Cols i0 i1) Empty)
+less None q = two None None
+less (Some (i0, i1)) None = two (Some (i0, i1)) None
+less (Some (i0, i1)) (Some (p0, p1)) = cond (leb p0 i1 && leb i0 p1) (two (left_of i0 p0) (right_of p1 i1)) (two (Some (i0, i1)) None)
 
 unfoldable pub crescent_row : Grid → Vec2 → Vec2 → Float → ℕ → Crescent
 crescent_row g prev c r j = less (disk_row g c r j) (disk_row g prev r j)

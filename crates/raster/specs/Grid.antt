@@ -1,5 +1,5 @@
 -- A raster's cells: numbers, centres, and the cell at a point, operation by operation as in raster.rs. Definitions only.
-use Rattle.std.specs.Prelude.{ℕ, ◌+◌, ◌*◌, ◌≤◌, ◌<◌, Bool, false, cond, not, ◌&&◌, ◌||◌, List, get_or, eqb, ltb, leb, Float}
+use Rattle.std.specs.Prelude.{ℕ, ◌+◌, ◌*◌, ◌≤◌, ◌<◌, Bool, false, cond, not, ◌&&◌, ◌||◌, List, get_or, eqb, ltb, leb, Float, Err, None, Ok, Option, Result, Some}
 use Rattle.std.specs.Float.{binary64}
 use Rattle.std.specs.Float.Ieee.{to_unsigned, add, sub, mul, div, lt}
 use Rattle.numbers.specs.Cast.{float}
@@ -10,10 +10,8 @@ use Rattle.geom.specs.Vec.{v2, f0, sum, difference}
 use Rattle.geom.specs.declared.vec2.Vec2.{Vec2}
 use Rattle.raster.specs.declared.grid.Grid.{Grid}
 use Rattle.raster.specs.declared.grid.CellNo.{CellNo}
-use Rattle.raster.specs.declared.grid.Raster.{Raster}
-use Rattle.raster.specs.declared.grid.Raster.TheVariants.{Unfit, TooLarge, Of}
-use Rattle.raster.specs.declared.grid.Found.{Found}
-use Rattle.raster.specs.declared.grid.Found.TheVariants.{Nothing, At}
+use Rattle.raster.specs.declared.grid.Refusal.{Refusal}
+use Rattle.raster.specs.declared.grid.Refusal.TheVariants.{Unfit, TooLarge}
 
 -- the sizes of document 01, question 14
 pub record Sides (g : Grid) : Type 0 where
@@ -41,8 +39,8 @@ grid_of lo hi cell margin = record {
 }
 
 -- a grid that is not too large: document 01, question 14
-unfoldable pub sized_of : Grid → Raster
-sized_of g = cond (leb g.nx 4096 && (leb g.ny 4096 && leb (g.ny * g.nx) 1048576)) (Of g) TooLarge
+unfoldable pub sized_of : Grid → Result Grid Refusal
+sized_of g = cond (leb g.nx 4096 && (leb g.ny 4096 && leb (g.ny * g.nx) 1048576)) (Ok g) (Err TooLarge)
 
 -- numbers, hi not below lo
 unfoldable pub spans_of : Float → Float → Bool
@@ -52,14 +50,13 @@ spans_of lo hi = (is_finite lo && is_finite hi) && not (lt hi lo)
 unfoldable pub fit_of : Vec2 → Vec2 → Float → Bool
 fit_of lo hi cell = (is_finite cell && lt f0 cell) && (spans_of lo.x hi.x && spans_of lo.y hi.y)
 
-unfoldable pub new_grid : Vec2 → Vec2 → Float → Float → Raster
-new_grid lo hi cell margin = cond (fit_of lo hi cell) (sized_of (grid_of lo hi cell margin)) Unfit
+unfoldable pub new_grid : Vec2 → Vec2 → Float → Float → Result Grid Refusal
+new_grid lo hi cell margin = cond (fit_of lo hi cell) (sized_of (grid_of lo hi cell margin)) (Err Unfit)
 
--- document 01's number of a refusal; 0 for a grid
-unfoldable pub refusal_of : Raster → ℕ
+-- document 01's number of a refusal
+abbrev pub refusal_of : Refusal → ℕ
 refusal_of Unfit = 12
 refusal_of TooLarge = 14
-refusal_of (Of g) = 0
 
 unfoldable pub numbered : Grid → ℕ → ℕ → CellNo
 numbered g i j = record { 0 = j * g.nx + i }
@@ -72,8 +69,8 @@ unfoldable pub center_of : Grid → ℕ → ℕ → Vec2
 center_of g i j = sum g.origin (v2 (offset g i) (offset g j))
 
 -- a column and a row that are on the grid
-unfoldable pub on_grid : Grid → ℕ → ℕ → Found
-on_grid g i j = cond (ltb i g.nx && ltb j g.ny) (At i j) Nothing
+unfoldable pub on_grid : Grid → ℕ → ℕ → Option (ℕ × ℕ)
+on_grid g i j = cond (ltb i g.nx && ltb j g.ny) (Some (i, j)) None
 
 -- a point's place in columns, and in rows
 abbrev pub column_at : Grid → Vec2 → Float
@@ -87,13 +84,13 @@ abbrev pub astray : Float → Float → Bool
 astray fx fy = lt fx f0 || (lt fy f0 || (not (is_finite fx) || not (is_finite fy)))
 
 -- the cell that holds p, if it is on the grid
-unfoldable pub cell_of : Grid → Vec2 → Found
-cell_of g p = cond (astray (column_at g p) (row_at g p)) Nothing (on_grid g (to_unsigned 64 (column_at g p)) (to_unsigned 64 (row_at g p)))
+unfoldable pub cell_of : Grid → Vec2 → Option (ℕ × ℕ)
+cell_of g p = cond (astray (column_at g p) (row_at g p)) None (on_grid g (to_unsigned 64 (column_at g p)) (to_unsigned 64 (row_at g p)))
 
 -- a cell that exists and is set
-abbrev pub stock_in : Grid → List ℕ → Found → Bool
-stock_in g m Nothing = false
-stock_in g m (At i j) = eqb (get_or m (j * g.nx + i) 0) 1
+abbrev pub stock_in : Grid → List ℕ → Option (ℕ × ℕ) → Bool
+stock_in g m None = false
+stock_in g m (Some (i, j)) = eqb (get_or m (j * g.nx + i) 0) 1
 
 unfoldable pub stock_at : Grid → List ℕ → Vec2 → Bool
 stock_at g m p = stock_in g m (cell_of g p)

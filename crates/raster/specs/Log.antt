@@ -31,12 +31,16 @@ clear_cell k s = cond (eqb (get_or s.cells k 0) 1) (taken k s) s
 unfoldable pub clear_after : Grid → Vec2 → Vec2 → Float → Stock → Stock
 clear_after g prev c r s = over_crescent clear_cell g prev c r s
 
+-- a byte is written to the cell of entry i of the log
+abbrev pub written : List ℕ → ℕ → ℕ → List ℕ → List ℕ
+written log v i m = set m (get_or log i 0) v
+
 -- entry i of the log is stock again; it is cleared again
 abbrev pub put_back : List ℕ → ℕ → List ℕ → List ℕ
-put_back log i m = set m (get_or log i 0) 1
+put_back log i m = written log 1 i m
 
 abbrev pub take_out : List ℕ → ℕ → List ℕ → List ℕ
-take_out log i m = set m (get_or log i 0) 0
+take_out log i m = written log 0 i m
 
 unfoldable pub undone : List ℕ → ℕ → ℕ → List ℕ → List ℕ
 undone log from to m = loop (put_back log) from to m

@@ -1,6 +1,6 @@
 // A raster's cells: their numbers and centres, and the cell at a point.
 ghost use Rattle.std.specs.Prelude.{◌≡◌, ◌≤◌, ◌<◌, ◌%◌, ◌/◌, ◌^◌, length, get_or};
-ghost use Rattle.raster.specs.Grid.{Sides, Over, refusal_of, spans_of, fit_of, reach_of, grid_of, sized_of, new_grid, numbered, center_of, cell_of, stock_at};
+ghost use Rattle.raster.specs.Grid.{Sides, Over, spans_of, fit_of, reach_of, grid_of, sized_of, new_grid, numbered, center_of, cell_of, stock_at};
 
 use geom::vec2::Vec2;
 use numbers::cast::float_of;
@@ -19,29 +19,25 @@ pub struct Grid {
 #[derive(Clone, Copy)]
 pub struct CellNo(pub u32);
 
-// The cell at a point, as column and row.
+// Why there is no grid: its corners or its cell are no corners and no cell, or it is too large.
 #[derive(Clone, Copy)]
-pub enum Found {
-    Nothing,
-    At(usize, usize),
-}
-
-// A grid, or why there is none: its corners or its cell are no corners and no cell, or it is too large.
-#[derive(Clone, Copy)]
-pub enum Raster {
+pub enum Refusal {
     Unfit,
     TooLarge,
-    Of(Grid),
 }
 
-// Document 01's number of a refusal; 0 for a grid.
-pub fn refusal_of(r: Raster) -> u32
-    ensures { result ≡ refusal_of r }
-{
-    match r {
-        Raster::Unfit => 12,
-        Raster::TooLarge => 14,
-        Raster::Of(g) => 0,
+// Document 01's number of a refusal.
+impl From<Refusal> for u32 {
+    ghost use Rattle.std.specs.Prelude.{◌≡◌};
+    ghost use Rattle.raster.specs.Grid.{refusal_of};
+
+    ghost from_gives = { λ refusal number. number ≡ refusal_of refusal };
+
+    fn from(refusal: Refusal) -> u32 {
+        match refusal {
+            Refusal::Unfit => 12,
+            Refusal::TooLarge => 14,
+        }
     }
 }
 
@@ -70,7 +66,7 @@ fn reach(lo: f64, hi: f64, cell: f64, margin: f64) -> usize
 }
 
 // The grid over lo..hi with a margin around it, unless it is larger than document 01 allows.
-fn sized(lo: Vec2, hi: Vec2, cell: f64, margin: f64) -> Raster
+fn sized(lo: Vec2, hi: Vec2, cell: f64, margin: f64) -> Result<Grid, Refusal>
     ensures { result ≡ sized_of (grid_of lo hi cell margin) }
 {
     let w = reach(lo.x, hi.x, cell, margin);
@@ -84,7 +80,7 @@ fn sized(lo: Vec2, hi: Vec2, cell: f64, margin: f64) -> Raster
                     x: margin,
                     y: margin,
                 });
-                return Raster::Of(Grid {
+                return Ok(Grid {
                     origin,
                     cell,
                     nx,
@@ -93,16 +89,16 @@ fn sized(lo: Vec2, hi: Vec2, cell: f64, margin: f64) -> Raster
             }
         }
     }
-    Raster::TooLarge
+    Err(Refusal::TooLarge)
 }
 
-pub fn new(lo: Vec2, hi: Vec2, cell: f64, margin: f64) -> Raster
+pub fn new(lo: Vec2, hi: Vec2, cell: f64, margin: f64) -> Result<Grid, Refusal>
     ensures { result ≡ new_grid lo hi cell margin }
 {
     if is_fit(lo, hi, cell) {
         return sized(lo, hi, cell, margin);
     }
-    Raster::Unfit
+    Err(Refusal::Unfit)
 }
 
 pub fn cell_no(g: Grid, i: usize, j: usize) -> CellNo
@@ -167,8 +163,9 @@ pub fn center(g: Grid, i: usize, j: usize) -> Vec2
     })
 }
 
+// The cell at a point, as column and row.
 // The tests turn NaN back, and an infinity's column is beyond every grid's. A column that is on a grid has a u32.
-pub fn cell_of(g: Grid, p: Vec2) -> Found
+pub fn cell_of(g: Grid, p: Vec2) -> Option<(usize, usize)>
     requires nx_bound { g.nx ≤ 4096 }
     requires ny_bound { g.ny ≤ 4096 }
     ensures { result ≡ cell_of g p }
@@ -181,12 +178,12 @@ pub fn cell_of(g: Grid, p: Vec2) -> Found
             if i < g.nx {
                 let j = numbers::cast::sat_u32(fy) as usize;
                 if j < g.ny {
-                    return Found::At(i, j);
+                    return Some((i, j));
                 }
             }
         }
     }
-    Found::Nothing
+    None
 }
 
 // Stock at a point; none off the grid.
@@ -194,8 +191,7 @@ pub fn at(g: Grid, map: &[u8], p: Vec2) -> bool
     requires { Over g (length map.now) }
     ensures { result ≡ stock_at g map.now p }
 {
-    let f = cell_of(g, p);
-    let Found::At(i, j) = f else {
+    let Some((i, j)) = cell_of(g, p) else {
         return false;
     };
     let k = index_of(cell_no(g, i, j));

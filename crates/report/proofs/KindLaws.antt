@@ -12,20 +12,21 @@ use Rattle.events.specs.Chunk.{Chunk}
 use Rattle.events.specs.Lent.{push, decode}
 use Rattle.events.specs.Read.{read_at, meant, list_from}
 use Rattle.events.specs.Told.{how_many, chunks_of}
+use Rattle.std.specs.Prelude.{Option as Maybe, Some, None}
 use Rattle.events.specs.declared.list.Read.{Read}
-use Rattle.events.specs.declared.list.Read.TheVariants.{Helix, Plunge, Link, Cut, Unfit}
+use Rattle.events.specs.declared.list.Read.TheVariants.{Helix, Plunge, Link, Cut}
 use Rattle.events.proofs.ReadLaws.{decode_list}
 use Rattle.report.specs.Kinds.{kinds, total, counting, count_row, kinds_of}
 use Rattle.report.specs.declared.kinds.Kinds.{Kinds}
 
 -- ---- a row counts for one at most
 
-counting-few : (c : Read) (t : Kinds) → total (counting c t) ≤ total t + 1
-counting-few (Helix c rad) t = omega arith
-counting-few (Plunge p) t = omega arith
-counting-few (Link p) t = omega arith
-counting-few (Cut first count) t = omega arith
-counting-few Unfit t = omega arith
+counting-few : (c : Maybe Read) (t : Kinds) → total (counting c t) ≤ total t + 1
+counting-few (Some (Helix c rad)) t = omega arith
+counting-few (Some (Plunge p)) t = omega arith
+counting-few (Some (Link p)) t = omega arith
+counting-few (Some (Cut first count)) t = omega arith
+counting-few None t = omega arith
 
 pub going_few : (rows : List ℕ) (ts : List Float) (n : ℕ) (t : Kinds) (k : ℕ) → Going (count_row rows ts) 0 n (kinds 0 0 0 0) t k → total t ≤ k
 going_few rows ts n t k g =
@@ -45,17 +46,17 @@ Counts t (some cs) r = r ≡ more t cs
 kinds_eq : {a a' b b' c c' d d' : ℕ} → a ≡ a' → b ≡ b' → c ≡ c' → d ≡ d' → kinds a b c d ≡ kinds a' b' c' d'
 kinds_eq p q r s = λ i. record { passes = p i; helices = q i; plunges = r i; links = s i }
 
-push_counts : (ts : List Float) (c : Read) (o : Option (List Chunk)) (t r : Kinds) → Counts (counting c t) o r → Counts t (push (meant ts c) o) r
+push_counts : (ts : List Float) (c : Maybe Read) (o : Option (List Chunk)) (t r : Kinds) → Counts (counting c t) o r → Counts t (push (meant ts c) o) r
 unfolding how_many
-push_counts ts Unfit o t r h = tt
-push_counts ts (Helix c rad) none t r h = tt
-push_counts ts (Plunge p) none t r h = tt
-push_counts ts (Link p) none t r h = tt
-push_counts ts (Cut first count) none t r h = tt
-push_counts ts (Helix c rad) (some cs) t r h = h ∙ kinds_eq (omega arith) (omega arith) (omega arith) (omega arith)
-push_counts ts (Plunge p) (some cs) t r h = h ∙ kinds_eq (omega arith) (omega arith) (omega arith) (omega arith)
-push_counts ts (Link p) (some cs) t r h = h ∙ kinds_eq (omega arith) (omega arith) (omega arith) (omega arith)
-push_counts ts (Cut first count) (some cs) t r h = h ∙ kinds_eq (omega arith) (omega arith) (omega arith) (omega arith)
+push_counts ts None o t r h = tt
+push_counts ts (Some (Helix c rad)) none t r h = tt
+push_counts ts (Some (Plunge p)) none t r h = tt
+push_counts ts (Some (Link p)) none t r h = tt
+push_counts ts (Some (Cut first count)) none t r h = tt
+push_counts ts (Some (Helix c rad)) (some cs) t r h = h ∙ kinds_eq (omega arith) (omega arith) (omega arith) (omega arith)
+push_counts ts (Some (Plunge p)) (some cs) t r h = h ∙ kinds_eq (omega arith) (omega arith) (omega arith) (omega arith)
+push_counts ts (Some (Link p)) (some cs) t r h = h ∙ kinds_eq (omega arith) (omega arith) (omega arith) (omega arith)
+push_counts ts (Some (Cut first count)) (some cs) t r h = h ∙ kinds_eq (omega arith) (omega arith) (omega arith) (omega arith)
 
 module _ (rows : List ℕ) (ts : List Float) where
   -- the first turn taken off

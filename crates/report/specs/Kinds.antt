@@ -1,9 +1,9 @@
 -- How many chunks of each kind are listed: the rows are read one by one. Definitions only.
-use Rattle.std.specs.Prelude.{List, ℕ, ◌+◌, Float}
+use Rattle.std.specs.Prelude.{List, ℕ, ◌+◌, Option, Some, None, Float}
 use Rattle.loops.specs.Loop.{loop}
 use Rattle.events.specs.Read.{read_at}
 use Rattle.events.specs.declared.list.Read.{Read}
-use Rattle.events.specs.declared.list.Read.TheVariants.{Helix, Plunge, Link, Cut, Unfit}
+use Rattle.events.specs.declared.list.Read.TheVariants.{Helix, Plunge, Link, Cut}
 use Rattle.report.specs.declared.kinds.Kinds.{Kinds}
 
 abbrev pub kinds : ℕ → ℕ → ℕ → ℕ → Kinds
@@ -14,12 +14,12 @@ abbrev pub total : Kinds → ℕ
 total t = t.passes + t.helices + t.plunges + t.links
 
 -- match c { Cut => passes += 1, Helix => helix_entries += 1, Link => links += 1, Plunge => retracts += 1 }; a row that is no chunk counts for none
-abbrev pub counting : Read → Kinds → Kinds
-counting (Helix c rad) t = kinds t.passes (t.helices + 1) t.plunges t.links
-counting (Plunge p) t = kinds t.passes t.helices (t.plunges + 1) t.links
-counting (Link p) t = kinds t.passes t.helices t.plunges (t.links + 1)
-counting (Cut first count) t = kinds (t.passes + 1) t.helices t.plunges t.links
-counting Unfit t = t
+abbrev pub counting : Option Read → Kinds → Kinds
+counting (Some (Helix c rad)) t = kinds t.passes (t.helices + 1) t.plunges t.links
+counting (Some (Plunge p)) t = kinds t.passes t.helices (t.plunges + 1) t.links
+counting (Some (Link p)) t = kinds t.passes t.helices t.plunges (t.links + 1)
+counting (Some (Cut first count)) t = kinds (t.passes + 1) t.helices t.plunges t.links
+counting None t = t
 
 abbrev pub count_row : List ℕ → List Float → ℕ → Kinds → Kinds
 count_row rows ts k t = counting (read_at rows ts k) t

@@ -1,7 +1,7 @@
 -- The report of `adaptive_clear` of adaptive.rs, without texts, and what document 01 adds to it. Definitions only.
 use Rattle.std.specs.Prelude.{cond, List, ℕ, ◌+◌, length, get_or, eqb, Float}
 use Rattle.std.specs.Float.{binary64}
-use Rattle.std.specs.Float.Ieee.{of_bits, sub, mul, div, lt, to_unsigned}
+use Rattle.std.specs.Float.Ieee.{sub, mul, div, lt, to_unsigned}
 use Rattle.loops.specs.Loop.{loop}
 use Rattle.loops.specs.Cells.{ones}
 use Rattle.numbers.specs.Cast.{float}

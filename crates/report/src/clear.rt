@@ -4,9 +4,6 @@ ghost use Rattle.geom.specs.Vec.{f0};
 ghost use Rattle.field.specs.Field.{s0};
 ghost use Rattle.report.specs.Zero.{blank_from, lent, cleared_to};
 
-use super::zero::{zero_bytes, zero_doubles, zero_words};
-use setup::fill::{fill_doubles, fill_singles, fill_words};
-
 // What stays: cells of the map, rows, triples.
 #[derive(Clone, Copy)]
 pub struct Used {
@@ -23,10 +20,10 @@ fn clear_workspace(n: usize, b: &mut [u8], u: &mut [u32], f: &mut [f32], w: &mut
     ensures f_after { f.new ≡ replicate (length f.old) s0 }
     ensures w_after { w.new ≡ replicate (length w.old) f0 }
 {
-    zero_bytes(b, n);
-    fill_words(u, 0);
-    fill_singles(f, 0.0);
-    fill_doubles(w, 0.0);
+    b[n..].fill(0);
+    u.fill(0);
+    f.fill(0.0);
+    w.fill(0.0);
 }
 
 pub fn clear(
@@ -46,6 +43,6 @@ pub fn clear(
     let r = 3 * c.rows;
     let t = 3 * c.triples;
     clear_workspace(c.cells, b, u, f, w);
-    zero_words(rows, r);
-    zero_doubles(triples, t);
+    rows[r..].fill(0);
+    triples[t..].fill(0.0);
 }

@@ -13,30 +13,21 @@ pub struct Kinds {
 }
 
 // One chunk more; a row that is none counts for none.
-fn add_kind(c: Read, t: Kinds) -> Kinds
+fn add_kind(c: Option<Read>, t: Kinds) -> Kinds
     requires { total t < 2 ^ 63 }
     ensures { result ≡ counting c t }
 {
+    let Some(row) = c else {
+        return t;
+    };
     let mut r = t;
-    match c {
-        Read::Helix(_, _) => {
-            r.helices = t.helices + 1;
-            return r;
-        }
-        Read::Plunge(_) => {
-            r.plunges = t.plunges + 1;
-            return r;
-        }
-        Read::Link(_) => {
-            r.links = t.links + 1;
-            return r;
-        }
-        Read::Cut(_, _) => {
-            r.passes = t.passes + 1;
-            return r;
-        }
-        Read::Unfit => return r,
+    match row {
+        Read::Helix(_, _) => r.helices += 1,
+        Read::Plunge(_) => r.plunges += 1,
+        Read::Link(_) => r.links += 1,
+        Read::Cut(_, _) => r.passes += 1,
     }
+    r
 }
 
 // Counts the first n rows.

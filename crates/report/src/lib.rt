@@ -6,4 +6,3 @@ pub mod clear;
 mod kinds;
 pub mod report;
 mod standing;
-pub mod zero;

@@ -36,8 +36,8 @@ pub fn remaining(map: &[u8], reachable: &[u8]) -> Left
         reach: 0,
         unreach: 0,
     };
-    for k in 0..map.len() {
-        t = add_cell(t, map[k], reachable[k]);
+    for (k, &stock) in map.iter().enumerate() {
+        t = add_cell(t, stock, reachable[k]);
     }
     t
 }

@@ -1,4 +1,5 @@
 -- The edges of a cell speak for all its points; the table's entries tell where samples lie. Assumes nothing.
+use Rattle.std.specs.Prelude.{Some}
 use mathlib.Core.Path.{◌≡◌, sym, ◌∙◌, ap, subst}
 use mathlib.Core.Bool.{true, false, not, ◌&&◌}
 use mathlib.Core.List.{List}
@@ -21,7 +22,6 @@ use Rattle.geom.specs.declared.vec2.Vec2.{Vec2}
 use Rattle.raster.specs.Grid.{Sides, cell_of}
 use Rattle.raster.specs.Contact.{direction_at, rim_at, Rim}
 use Rattle.raster.specs.declared.grid.Grid.{Grid}
-use Rattle.raster.specs.declared.grid.Found.TheVariants.{At}
 use Rattle.raster.proofs.ContactLaws.{vec_eq}
 use Rattle.spans.specs.Spans.{Placed}
 use Rattle.spans.specs.Ends.{below_of, beyond_of, Edged, Tame}
@@ -84,7 +84,7 @@ edges-is o cell n v i k x y p q X Y P Q t =
 -- ---- around a point
 
 module _ (g : Grid) (sides : Sides g) (t : Tame g) (r : Float) (s : ℕ) (S : 0 < s) (u : Vec2) (a c : ℕ) where
-  placed : (p : Vec2) (i j : ℕ) → cell_of g p ≡ At i j → Roomy g s i j → Placed g s p i j
+  placed : (p : Vec2) (i j : ℕ) → cell_of g p ≡ Some (i, j) → Roomy g s i j → Placed g s p i j
   placed p i j e R = record { at = e; left = R.left; right = R.right; below = R.below; above = R.above }
 
   near-is : EdgesTo g.origin.x g.cell g.nx s (scaled u r).x a (g.nx - s) → EdgesTo g.origin.y g.cell g.ny s (scaled u r).y c (g.ny - s) → Near g r s u a c

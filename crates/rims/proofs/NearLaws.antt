@@ -1,4 +1,5 @@
 -- A sample judged by the table is judged as by its definition. Assumes nothing.
+use Rattle.std.specs.Prelude.{Some}
 use mathlib.Core.Path.{◌≡◌, refl, sym, ◌∙◌, ap, subst}
 use mathlib.Core.Bool.{Bool, true, false, cond}
 use mathlib.Core.List.{List}
@@ -18,7 +19,6 @@ use Rattle.geom.specs.declared.vec2.Vec2.{Vec2}
 use Rattle.raster.specs.Grid.{Sides, cell_of, column_at, row_at, stock_at}
 use Rattle.raster.specs.Contact.{direction_at, rim_at}
 use Rattle.raster.specs.declared.grid.Grid.{Grid}
-use Rattle.raster.specs.declared.grid.Found.TheVariants.{At}
 use Rattle.raster.proofs.GridLaws.{found_at, number-below, stock-some}
 use Rattle.rims.specs.Offsets.{Roomy}
 use Rattle.spans.specs.Spans.{word}
@@ -124,7 +124,7 @@ module _ (g : Grid) (S : Sides g) (p : Vec2) (r : Float) (w : List Float) (n at 
     pub cell-inside : y * g.nx + x < g.ny * g.nx
     cell-inside = number-below g.nx g.ny x y (g.ny * g.nx) column-on row_on (omega arith)
 
-    cell-is : At x y ≡ cell_of g point
+    cell-is : Some (x, y) ≡ cell_of g point
     cell-is =
         let a = S.columns in
         let b = S.rows in
@@ -135,7 +135,7 @@ module _ (g : Grid) (S : Sides g) (p : Vec2) (r : Float) (w : List Float) (n at 
         (cy ∙ two-place g.cell qy _ g.ny _ b (sub-fits binary64 _ _) two-y first-y ∙ ap (λ (z : Float). to_unsigned 64 (div binary64 z g.cell)) same-y) row_on
 
     pub cell-stock : (m : List ℕ) → eqb (get_or m (y * g.nx + x) 0) 1 ≡ stock_at g m point
-    cell-stock m = stock-some g m point (At x y) x y (y * g.nx + x) cell-is refl refl
+    cell-stock m = stock-some g m point (Some (x, y)) x y (y * g.nx + x) cell-is refl refl
 
   -- where a tile tells that no stock is near, the sample is not over stock
   near-bare : (m tiles : List ℕ) → Tiled g m tiles → (u v : ℕ) → u ≤ i + e % 4096 → i + e % 4096 ≤ u + 7 → v ≤ j + e / 4096 → j + e / 4096 ≤ v + 7 → get_or tiles (tile_at g u v) 0 ≡ 0 → stock_at g m point ≡ false
@@ -176,8 +176,8 @@ module _ (g : Grid) (S : Sides g) (p : Vec2) (r : Float) (w : List Float) (n at 
       near-bare g S p r w n at i j A k (word w (at + 1 + k) - 1) d (omega (arith, t.some)) m tiles B _ _ (omega (arith, t.left)) (omega (arith, t.right)) (omega (arith, t.below)) (omega (arith, t.above)) C.bare
 
 -- a cell with room, counted from the cell s columns and rows before it
-pub shifted : (g : Grid) (p : Vec2) (s i j : ℕ) → cell_of g p ≡ At i j → Roomy g s i j → (cell_of g p ≡ At (i - s + s) (j - s + s)) × Roomy g s (i - s + s) (j - s + s)
+pub shifted : (g : Grid) (p : Vec2) (s i j : ℕ) → cell_of g p ≡ Some (i, j) → Roomy g s i j → (cell_of g p ≡ Some (i - s + s, j - s + s)) × Roomy g s (i - s + s) (j - s + s)
 shifted g p s i j e R =
     let x : i ≡ i - s + s = omega (arith, R.left) in
     let y : j ≡ j - s + s = omega (arith, R.below) in
-    subst (λ (z : ℕ). (cell_of g p ≡ At (i - s + s) z) × Roomy g s (i - s + s) z) y (subst (λ (z : ℕ). (cell_of g p ≡ At z j) × Roomy g s z j) x (e, R))
+    subst (λ (z : ℕ). (cell_of g p ≡ Some (i - s + s, z)) × Roomy g s (i - s + s) z) y (subst (λ (z : ℕ). (cell_of g p ≡ Some (z, j)) × Roomy g s z j) x (e, R))

@@ -1,4 +1,5 @@
 -- Samples that lie alike around every centre are judged by the table as by the definition. Assumes nothing.
+use Rattle.std.specs.Prelude.{Some}
 use mathlib.Core.Path.{◌≡◌, refl, sym, ap, ◌∙◌, subst}
 use mathlib.Core.Bool.{true, false, not, cond, ◌&&◌}
 use mathlib.Core.List.{List}
@@ -17,7 +18,6 @@ use Rattle.geom.specs.declared.vec2.Vec2.{Vec2}
 use Rattle.raster.specs.Grid.{Sides, center_of, cell_of, stock_at}
 use Rattle.raster.specs.Contact.{direction_at, rim_at, Rim}
 use Rattle.raster.specs.declared.grid.Grid.{Grid}
-use Rattle.raster.specs.declared.grid.Found.TheVariants.{At}
 use Rattle.raster.proofs.ContactLaws.{vec_eq}
 use Rattle.raster.proofs.GridLaws.{low_index, found_at, on-grid-at, number-below, stock-some, few-cells}
 use Rattle.rims.specs.Offsets.{middle_of, place_of, FixedAt, Fixed, reach_of, Roomy, Lies, Entry, entry_at, AllTold, Entered, Rims}
@@ -85,7 +85,7 @@ module _ (g : Grid) (S : Sides g) (p : Vec2) where
   along = place_of g.origin.y g.cell g.ny p.y
 
   -- a column and a row that are on the grid are the cell's
-  cell-placed : across < g.nx → along < g.ny → At across along ≡ cell_of g p
+  cell-placed : across < g.nx → along < g.ny → Some (across, along) ≡ cell_of g p
   cell-placed h k =
       let x = place-told g.origin.x g.cell g.nx p.x h in
       let y = place-told g.origin.y g.cell g.ny p.y k in
@@ -104,8 +104,8 @@ module _ (g : Grid) (S : Sides g) (r : Float) (s : ℕ) (u : Vec2) (a c : ℕ) w
         let y = H j R.below R.above in
         let p = rim_at (center_of g i j) r u in
         sym (cell-placed g S p x.0 y.0)
-        ∙ ap (λ (z : ℕ). At z (along g S p)) (let e : across g S p ≡ i - s + a = omega (arith, x.1, R.left) in e)
-        ∙ ap (λ (z : ℕ). At (i - s + a) z) (let e : along g S p ≡ j - s + c = omega (arith, y.1, R.below) in e);
+        ∙ ap (λ (z : ℕ). Some (z, along g S p)) (let e : across g S p ≡ i - s + a = omega (arith, x.1, R.left) in e)
+        ∙ ap (λ (z : ℕ). Some (i - s + a, z)) (let e : along g S p ≡ j - s + c = omega (arith, y.1, R.below) in e);
   }
 
 -- a number that the table can hold

@@ -1,6 +1,6 @@
 -- Where the samples of a rim lie, counted from the cell of its centre, wherever in its cell the centre lies: in one of two columns and one of two rows; and the
 -- first number of each column and row, which tells the two apart. Definitions only.
-use Rattle.std.specs.Prelude.{ℕ, ◌+◌, ◌-◌, ◌*◌, ◌/◌, ◌%◌, ◌≤◌, ◌<◌, min, ◌≡◌, true, not, List, length, get_or, T, Float}
+use Rattle.std.specs.Prelude.{ℕ, ◌+◌, ◌-◌, ◌*◌, ◌/◌, ◌%◌, ◌≤◌, ◌<◌, min, ◌≡◌, true, not, List, length, get_or, T, Float, Some}
 use Rattle.std.specs.Float.{nan, binary64}
 use Rattle.std.specs.Float.Ieee.{is_nan, fits, add, sub, div, lt, le}
 use Rattle.numbers.specs.Cast.{float}
@@ -8,7 +8,6 @@ use Rattle.geom.specs.declared.vec2.Vec2.{Vec2}
 use Rattle.raster.specs.Grid.{column_at, row_at, cell_of}
 use Rattle.raster.specs.Contact.{direction_at, rim_at, Rim}
 use Rattle.raster.specs.declared.grid.Grid.{Grid}
-use Rattle.raster.specs.declared.grid.Found.TheVariants.{At}
 use Rattle.spans.specs.Spans.{word}
 use Rattle.spans.specs.Ends.{below_of, beyond_of}
 use Rattle.rims.specs.Offsets.{Roomy}
@@ -50,8 +49,8 @@ pub record Two (n k : ℕ) (f : Float) : Type 0 where
 -- Around every point of a cell (i, j) with room the rim's point in direction u lies in one of the columns i - s + a and the next, and in one of the rows j - s + c
 -- and the next.
 pub record Near (g : Grid) (r : Float) (s : ℕ) (u : Vec2) (a c : ℕ) : Type 0 where
-  pub column : (p : Vec2) (i j : ℕ) → cell_of g p ≡ At i j → Roomy g s i j → Two g.nx (i - s + a) (column_at g (rim_at p r u))
-  pub row : (p : Vec2) (i j : ℕ) → cell_of g p ≡ At i j → Roomy g s i j → Two g.ny (j - s + c) (row_at g (rim_at p r u))
+  pub column : (p : Vec2) (i j : ℕ) → cell_of g p ≡ Some (i, j) → Roomy g s i j → Two g.nx (i - s + a) (column_at g (rim_at p r u))
+  pub row : (p : Vec2) (i j : ℕ) → cell_of g p ≡ Some (i, j) → Roomy g s i j → Two g.ny (j - s + c) (row_at g (rim_at p r u))
 
 -- 0 says nothing, and 1 more than a + 4096 c that it is so
 pub record Entry (g : Grid) (r : Float) (s : ℕ) (u : Vec2) (x : ℕ) : Type 0 where
@@ -113,7 +112,7 @@ pub record Around (g : Grid) (p : Vec2) (r : Float) (w : List Float) (n at i j :
   pub room : ℕ
   pub entries : EntriesTo g r n at room n w
   pub blocks : BlocksTo n at 255 w
-  pub cell : cell_of g p ≡ At (i + room) (j + room)
+  pub cell : cell_of g p ≡ Some (i + room, j + room)
   pub roomy : Roomy g room (i + room) (j + room)
 
 -- counted from cell (i, j), the first column and the first row that block b tells of are on the grid

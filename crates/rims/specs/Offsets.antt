@@ -1,5 +1,5 @@
 -- Where the samples of a rim lie, counted from the cell of its centre, for centres of cells. Definitions only.
-use Rattle.std.specs.Prelude.{ℕ, ◌+◌, ◌-◌, ◌*◌, ◌≤◌, ◌<◌, min, ◌≡◌, not, cond, List, length, get_or, T, Float}
+use Rattle.std.specs.Prelude.{ℕ, ◌+◌, ◌-◌, ◌*◌, ◌≤◌, ◌<◌, min, ◌≡◌, not, cond, List, length, get_or, T, Float, Some}
 use Rattle.std.specs.Float.{nan, binary64}
 use Rattle.std.specs.Float.Ieee.{is_nan, to_unsigned, add, sub, mul, div, le}
 use Rattle.numbers.specs.Cast.{float}
@@ -9,7 +9,6 @@ use Rattle.geom.specs.declared.vec2.Vec2.{Vec2}
 use Rattle.raster.specs.Grid.{center_of, cell_of}
 use Rattle.raster.specs.Contact.{direction_at, rim_at, Rim}
 use Rattle.raster.specs.declared.grid.Grid.{Grid}
-use Rattle.raster.specs.declared.grid.Found.TheVariants.{At}
 use Rattle.spans.specs.Spans.{word}
 
 -- ---- along one axis
@@ -49,7 +48,7 @@ pub record Lies (g : Grid) (r : Float) (s : ℕ) (u : Vec2) (e : ℕ) : Type 0 w
   pub column : ℕ
   pub row : ℕ
   pub is : e ≡ row * g.nx + column
-  pub at : (i j : ℕ) → Roomy g s i j → cell_of g (rim_at (center_of g i j) r u) ≡ At (i - s + column) (j - s + row)
+  pub at : (i j : ℕ) → Roomy g s i j → cell_of g (rim_at (center_of g i j) r u) ≡ Some (i - s + column, j - s + row)
 
 -- 0 says nothing, and e + 1 that it is so
 abbrev pub Entry : Grid → Float → ℕ → Vec2 → ℕ → Type 0

@@ -12,9 +12,8 @@ use super::offsets::reach_of;
 use super::thresholds::fill_thresholds;
 use geom::vec2::Vec2;
 use numbers::cast::{float_of, sat_u32};
-use numbers::counts::{greatest, least};
 use raster::grid::Grid;
-use spans::edges::{below, beyond, end_with, is_tame};
+use spans::edges::{below, beyond, is_tame};
 
 // Whether the points of cell i, moved by v, lie in cell k or the next one of n.
 fn is_near(o: f64, cell: f64, n: usize, v: f64, i: usize, k: usize) -> bool
@@ -32,7 +31,7 @@ fn are_near(o: f64, cell: f64, n: usize, s: usize, v: f64, a: usize) -> bool
     requires { (n ≤ 4096) × (a ≤ 4096) }
     ensures { result ≡ true → EdgesTo o cell n s v a (n - s) }
 {
-    for i in s..end_with(n, s) {
+    for i in s..n.saturating_sub(s) {
         if !is_near(o, cell, n, v, i, i - s + a) {
             return false;
         }
@@ -90,21 +89,21 @@ fn block_of(es: &[f64]) -> u64
     requires { Numbers 0 (length es.now) es.now }
     ensures { (result < 2 ^ 32) × Block es.now 0 (length es.now) result }
 {
-    let mut a = 4096;
-    let mut b = 0;
-    let mut c = 4096;
-    let mut d = 0;
-    for k in 0..es.len() {
-        let x = f64::to_bits(es[k]) as usize;
+    let mut a = 4096usize;
+    let mut b = 0usize;
+    let mut c = 4096usize;
+    let mut d = 0usize;
+    for e in es {
+        let x = f64::to_bits(*e) as usize;
         if x == 0 {
             return 0;
         }
         let i = (x - 1) % 4096;
         let j = (x - 1) / 4096;
-        a = least(a, i);
-        b = greatest(b, i);
-        c = least(c, j);
-        d = greatest(d, j);
+        a = a.min(i);
+        b = b.max(i);
+        c = c.min(j);
+        d = d.max(j);
     }
     if (b < a + 8) & (d < c + 8) {
         return (c * 4096 + a + 1) as u64;
@@ -118,9 +117,9 @@ fn fill_blocks(n: usize, at: usize, w: &mut [f64])
     requires numbers { Numbers (at + 1) (at + 1 + n) w.old }
     ensures { Apart (at + 2049) (at + 2304) w.old w.new × BlocksTo n at 255 w.new }
 {
-    for b in 0..255 {
-        let k = at + 1 + least(8 * b, n);
-        let e = at + 1 + least(8 * b + 8, n);
+    for b in 0..255usize {
+        let k = at + 1 + (8 * b).min(n);
+        let e = at + 1 + (8 * b + 8).min(n);
         w[at + 2049 + b] = f64::from_bits(block_of(&w[k..e]));
     }
 }

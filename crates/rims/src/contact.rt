@@ -10,8 +10,7 @@ ghost use Rattle.rims.specs.Tiles.{tiles_of, Tiled, BareBlock};
 use super::hits::{is_hit, is_roomy};
 use super::tiles::tiles_of;
 use geom::vec2::Vec2;
-use numbers::counts::least;
-use raster::grid::{Found, Grid, cell_of};
+use raster::grid::{Grid, cell_of};
 
 // Cell a, or the next one where q is not before x, its first number.
 fn next_from(a: usize, x: f64, q: f64) -> usize
@@ -70,7 +69,7 @@ fn block_hits(
     ensures { result ≡ loop (hit_at g map.now c r n) (8 * b) (min (8 * b + 8) n) 0 }
 {
     let mut h = 0;
-    for k in 8 * b..least(8 * b + 8, n) {
+    for k in 8 * b..(8 * b + 8).min(n) {
         if sample_hit(g, map, c, r, w, n, at, i, j, k) {
             h += 1;
         }
@@ -115,12 +114,10 @@ fn box_hits(
     ensures { result ≡ hits_of g map.now c r n }
 {
     let mut h = 0;
-    let mut b = 0;
-    while 8 * b < n {
+    for b in 0..(n + 7) / 8 {
         if !is_bare(g, tiles, w, at, i, j, b) {
             h += block_hits(g, map, c, r, w, n, at, i, j, b);
         }
-        b += 1;
     }
     h
 }
@@ -147,8 +144,7 @@ pub fn rim_hits(
         let t = f64::to_bits(w[at]) as usize;
         if 0 < t {
             let s = t - 1;
-            let f = cell_of(g, c);
-            if let Found::At(i, j) = f {
+            if let Some((i, j)) = cell_of(g, c) {
                 if is_roomy(g, s, i, j) {
                     return box_hits(g, map, tiles, c, r, w, n, at, i - s, j - s);
                 }

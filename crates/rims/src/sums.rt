@@ -7,10 +7,9 @@ ghost use Rattle.rims.specs.Sums.{Added, Countable, Summed, HitsAlong};
 
 use super::hits::is_roomy;
 use super::offsets::reach_of;
-use numbers::counts::least;
 use raster::grid::Grid;
 
-// Adds 1 to the count of each of the 32 cells from number a on that is stock. No turn stops it, so that many go at once.
+// Adds 1 to the count of each of the 32 cells from number a on that is stock; by index, as in `tiles::gather`. No turn stops it, so that many go at once.
 fn add_cells(map: &[u8], a: usize, counts: &mut [u16])
     requires a_in_bounds { a + 32 ≤ length map.now }
     requires countable { Countable counts.old }
@@ -82,7 +81,7 @@ pub fn start_of(g: Grid, r: f64, i: usize) -> usize
 {
     let s = reach_of(g, r) + 32;
     if s <= g.nx {
-        return least(i, g.nx - s);
+        return i.min(g.nx - s);
     }
     i
 }

@@ -1,6 +1,6 @@
 // The first number of each column and row, as a distance from the corner: divided by the cell it is at least the
 // column's number, and the float before it is not. Guessed and tested, so that no rounding has to be reckoned with.
-ghost use Rattle.std.specs.Prelude.{◌≡◌, true, ◌+◌, ◌≤◌, ◌<◌, length};
+ghost use Rattle.std.specs.Prelude.{◌≡◌, true, IfSome, ◌+◌, ◌≤◌, ◌<◌, length};
 ghost use Rattle.std.specs.Float.{binary64};
 ghost use Rattle.std.specs.Float.Ieee.{of_bits, lt};
 ghost use Rattle.numbers.specs.Order.{is_finite};
@@ -24,24 +24,24 @@ fn is_first(cell: f64, m: usize, b: u64) -> bool
     before & at
 }
 
-// The first float's bits among some from b on; 0 where it is none of them.
-fn first_from(cell: f64, m: usize, b: u64) -> u64
+// The first float's bits, if it is among some from b on.
+fn first_from(cell: f64, m: usize, b: u64) -> Option<u64>
     requires cell_value { (is_finite cell ≡ true) × (lt f0 cell ≡ true) }
     requires b_nonzero { (0 < b) × (b + 16 < 0x7ff0_0000_0000_0000) }
-    ensures { (result < 0x7ff0_0000_0000_0000) × (0 < result → First cell m (of_bits binary64 result)) }
+    ensures { IfSome result (λ k. (k < 0x7ff0_0000_0000_0000) × First cell m (of_bits binary64 k)) }
 {
     for k in b..b + 16 {
         if is_first(cell, m, k) {
-            return k;
+            return Some(k);
         }
     }
-    0
+    None
 }
 
-// The bits of cell m's first float; 0 where it is not found near m cells.
-fn first_of(cell: f64, m: usize) -> u64
+// The bits of cell m's first float, if it is found near m cells.
+fn first_of(cell: f64, m: usize) -> Option<u64>
     requires { (is_finite cell ≡ true) × (lt f0 cell ≡ true) }
-    ensures { (result < 0x7ff0_0000_0000_0000) × (0 < result → First cell m (of_bits binary64 result)) }
+    ensures { IfSome result (λ k. (k < 0x7ff0_0000_0000_0000) × First cell m (of_bits binary64 k)) }
 {
     let near = float_of(m) * cell;
     if 0.0 < near {
@@ -52,7 +52,7 @@ fn first_of(cell: f64, m: usize) -> u64
             }
         }
     }
-    0
+    None
 }
 
 // Writes the first numbers of the cells below n; whether all were found.
@@ -62,10 +62,9 @@ fn fill_firsts(cell: f64, n: usize, w: &mut [f64]) -> bool
     ensures { Apart 8193 12289 w.old w.new × (result ≡ true → FirstsTo cell n w.new) }
 {
     for m in 1..n {
-        let b = first_of(cell, m);
-        if b == 0 {
+        let Some(b) = first_of(cell, m) else {
             return false;
-        }
+        };
         w[8193 + m] = f64::from_bits(b);
     }
     true

@@ -3,9 +3,7 @@ ghost use Rattle.std.specs.Prelude.{◌≡◌, ◌+◌, ◌*◌, ◌≤◌, ◌<
 ghost use Rattle.raster.specs.Grid.{Over};
 ghost use Rattle.rims.specs.Tiles.{tiles_of, Keeps, Gathered, RowsGathered, Marked, ColumnsMarked, StockMarked, Tiled};
 
-use numbers::counts::least;
 use raster::grid::Grid;
-use spans::edges::end_with;
 use spans::runs::has_stock;
 
 // How many tiles lie along n cells.
@@ -16,7 +14,8 @@ pub fn tiles_of(n: usize) -> usize
     (n + 7) / 8
 }
 
-// Marks the columns in which one of the n cells from number a on is stock. No turn stops it, so that many go at once.
+// Marks the columns in which one of the n cells from number a on is stock; by index, since of a slice that is written
+// through a zip the proof knows only the length. No turn stops it, so that many go at once.
 fn gather(map: &[u8], a: usize, n: usize, cols: &mut [u8])
     requires { (a + n ≤ length map.now) × (n ≤ length cols.old) }
     ensures { Keeps cols.old cols.new × Gathered map.now a n cols.new }
@@ -33,7 +32,7 @@ pub fn gather_rows(g: Grid, map: &[u8], first: usize, end: usize, cols: &mut [u8
     requires nx_in_bounds { g.nx ≤ length cols.old }
     ensures { Keeps cols.old cols.new × RowsGathered g map.now first end cols.new }
 {
-    for j in first..least(end, g.ny) {
+    for j in first..end.min(g.ny) {
         gather(map, j * g.nx, g.nx, cols);
     }
 }
@@ -43,8 +42,8 @@ fn mark(n: usize, x: usize, y: usize, tiles: &mut [u8])
     requires { (x < n) × (y * n + n ≤ length tiles.old) }
     ensures { Keeps tiles.old tiles.new × Marked n x y tiles.new }
 {
-    let u = end_with(x, 1);
-    let v = end_with(y, 1);
+    let u = x.saturating_sub(1);
+    let v = y.saturating_sub(1);
     tiles[y * n + x] = 1;
     tiles[y * n + u] = 1;
     tiles[v * n + x] = 1;

@@ -1,5 +1,7 @@
 -- What the proofs of `next` cite: the distance of a piece point by point, and the next piece row by row; and that the next one comes before all others.
 -- Assumes nothing.
+use Rattle.passes.specs.Start.{Place}
+use Rattle.std.specs.Prelude.{None, Some, unwrap_or}
 use mathlib.Core.Path.{◌≡◌, refl, sym, ap, ◌∙◌, subst}
 use mathlib.Core.Bool.{Bool, true, false}
 use mathlib.Core.List.{List}
@@ -15,7 +17,7 @@ use Rattle.loops.proofs.Cases.{by_cases}
 use Rattle.loops.proofs.EachLaws.{over_more}
 use Rattle.loops.proofs.LeastLaws.{Leads, leads-first, leads_new, leads-on, leads-end, Ordered, lower_ordered, turned-ordered, then_ordered, then_equal, least-below, least_first}
 use Rattle.numbers.specs.Order.{min_of}
-use Rattle.geom.specs.Vec.{distance_of}
+use Rattle.geom.specs.Vec.{v2, f0, distance_of}
 use Rattle.geom.specs.Region.{vertex_of}
 use Rattle.geom.specs.Points.{points}
 use Rattle.geom.specs.declared.vec2.Vec2.{Vec2}
@@ -24,15 +26,14 @@ use Rattle.pieces.specs.Piece.{Piece, row_at, piece_of, pieces_at}
 use Rattle.pieces.specs.declared.row.Row.{Row}
 use Rattle.pieces.proofs.PieceLaws.{pieces-length, piece_get}
 use Rattle.passes.specs.Simulate.{nowhere}
-use Rattle.passes.specs.declared.start.Place.{Place}
-use Rattle.passes.specs.declared.start.Place.TheVariants.{At}
 use Rattle.passes.proofs.StartLaws.{nearer-ordered}
 use Rattle.rounds.specs.Next.{here_of, closer, piece_far, no_piece, candidate_of, candidate_at, nearer, longer, earlier, comes_before, next_of, Read}
 use Rattle.rounds.specs.declared.next.Candidate.{Candidate}
 
-pub here-at : (pos : Place) (p : Vec2) → pos ≡ At p → p ≡ here_of pos
+pub here-is : (pos : Place) → unwrap_or pos (v2 f0 f0) ≡ here_of pos
 unfolding here_of
-here-at pos p e = rw e refl
+here-is None = refl
+here-is (Some p) = refl
 
 -- ---- how far a piece is
 

@@ -5,9 +5,7 @@ use mathlib.Core.List.{List, [], ◌∷◌, ◌++◌}
 use Prim.Native.Nat.{ℕ, ◌+◌, ◌-◌, ◌*◌, ◌/◌, ◌≤◌}
 use native.Mathlib.Omega.{arith}
 use lib.ListN.{length, length-append}
-use lib.Dec.{eqb}
 use lib.Ieee.{Float}
-use borrow.Author.Tests.{eqb-true}
 use Rattle.loops.proofs.Cases.{by_test}
 use Rattle.geom.specs.declared.vec2.Vec2.{Vec2}
 use Rattle.raster.specs.Log.{st, Ready}
@@ -22,13 +20,15 @@ use Rattle.events.proofs.PassLaws.{points-long}
 use Rattle.passes.specs.Attempt.{Outcome}
 use Rattle.cutting.specs.Tries.{Tries, tries_of}
 use Rattle.cutting.specs.Way.{route_of, way_chunks}
-use Rattle.cutting.specs.Listing.{needs, refusal_of}
-use Rattle.cutting.specs.Piece.{spending, Left, WithEvents, listed_of, kept_of, went_of, worthy_of, after_tries, cut_piece_of}
+use Rattle.cutting.specs.Listing.{needs, room_of}
+use Rattle.cutting.specs.Piece.{spending, Left, WithEvents, listed_of, kept_where, kept_of, went_of, worthy_of, after_tries, cut_piece_of}
 use Rattle.cutting.specs.declared.piece.State.{State}
+use Rattle.std.specs.Prelude.{Result, Ok, Err}
+use Rattle.cutting.specs.declared.listing.Full.{Full}
 use Rattle.cutting.specs.declared.piece.Cut.{Cut}
-use Rattle.cutting.specs.declared.piece.Cut.TheVariants.{Nothing, Kept, Refused}
+use Rattle.cutting.specs.declared.piece.Cut.TheVariants.{Nothing, Kept}
 use Rattle.cutting.proofs.ListingLaws.{rows_long, way-singles}
-use Rattle.cutting.proofs.RefusalLaws.{needs_are, refusal_none}
+use Rattle.cutting.proofs.RoomLaws.{needs_are, room-fits}
 use Rattle.cutting.proofs.ListedLaws.{listed-long, gap-long}
 use Rattle.cutting.proofs.TriesKeep.{tries_long}
 
@@ -40,10 +40,10 @@ pub record Fit (rows : List ℕ) (o : List Float) (t : State) : Type 0 where
   pub fit_triples : t.triples * 3 ≤ length o
 
 -- a refusal counts no more
-abbrev pub FitAfter : List ℕ → List Float → Cut → Type 0
-FitAfter rows o (Nothing t) = Fit rows o t
-FitAfter rows o (Kept t) = Fit rows o t
-FitAfter rows o (Refused n) = Unit {0}
+abbrev pub FitAfter : List ℕ → List Float → Result Cut Full → Type 0
+FitAfter rows o (Ok (Nothing t)) = Fit rows o t
+FitAfter rows o (Ok (Kept t)) = Fit rows o t
+FitAfter rows o (Err f) = Unit {0}
 
 pub record Room (rows : List ℕ) (o : List Float) (l : Left) : Type 0 where
   pub rows_long : length l.rows ≡ length rows
@@ -62,10 +62,10 @@ module _ (s : Setup) (w : Way) (removed n : ℕ) (t : State) (m d log rows : Lis
   abbrev new : List Chunk
   new = ms ++ (cut ps ∷ [])
 
-  listed-room : refusal_of (length o / 3 - t.triples) (length rows / 3 - t.rows) (needs new) ≡ 0 → Room rows o (listed_of s w removed n t m d log rows o).left
+  listed-room : room_of (length o / 3 - t.triples) (length rows / 3 - t.rows) (needs new) ≡ Ok tt → Room rows o (listed_of s w removed n t m d log rows o).left
   unfolding listed_of
   listed-room e =
-      let r = refusal_none (length o / 3 - t.triples) (length rows / 3 - t.rows) (length ms) (length ps) (sym (needs_are _ _ w (spot_at o t.triples) ps) ∙ e) in
+      let r = room-fits (length o / 3 - t.triples) (length rows / 3 - t.rows) (length ms) (length ps) (sym (needs_are _ _ w (spot_at o t.triples) ps) ∙ e) in
       let a = r.0 in
       let b = r.1 in
       let l = points-long o t.triples n in
@@ -80,12 +80,13 @@ module _ (s : Setup) (w : Way) (removed n : ℕ) (t : State) (m d log rows : Lis
       }
 
   kept-room : Room rows o (kept_of s w removed n t m d log rows o).left
-  unfolding kept_of
+  unfolding kept_of kept_where
   kept-room =
-      let no : ℕ = refusal_of (length o / 3 - t.triples) (length rows / 3 - t.rows) (needs new) in
-      by_test (λ (q : WithEvents). Room rows o q.left) (eqb no 0) _ _
-      (λ b. listed-room (eqb-true no 0 b))
-      (λ b. record { rows_long = refl; out-long = refl; fit = tt })
+      where_room (room_of (length o / 3 - t.triples) (length rows / 3 - t.rows) (needs new)) refl
+    where
+      where_room : (r : Result Unit Full) → room_of (length o / 3 - t.triples) (length rows / 3 - t.rows) (needs new) ≡ r → Room rows o (kept_where s w removed n t m d log rows o r).left
+      where_room (Ok u) e = listed-room e
+      where_room (Err f) e = record { rows_long = refl; out-long = refl; fit = tt }
 
 -- ---- the piece
 
@@ -102,10 +103,10 @@ module _ (s : Setup) (wall vs : List Float) (lens allowed : List ℕ) (pts : Lis
       (λ e. kept-room s r.path c.attempt.removed c.attempt.points (spending r.work (spending c.attempt.work t)) m d c.log rows c.out (record { fit_rows = F.fit_rows; fit_triples = F.fit_triples }))
       (λ e. record { rows_long = refl; out-long = refl; fit = record { fit_rows = F.fit_rows; fit_triples = F.fit_triples } }))
 
-  fit_same : (o o' : List Float) → length o' ≡ length o → (a : Cut) → FitAfter rows o' a → FitAfter rows o a
-  fit_same o o' e (Nothing x) f = record { fit_rows = f.fit_rows; fit_triples = omega (arith, f.fit_triples, e) }
-  fit_same o o' e (Kept x) f = record { fit_rows = f.fit_rows; fit_triples = omega (arith, f.fit_triples, e) }
-  fit_same o o' e (Refused n) f = tt
+  fit_same : (o o' : List Float) → length o' ≡ length o → (a : Result Cut Full) → FitAfter rows o' a → FitAfter rows o a
+  fit_same o o' e (Ok (Nothing x)) f = record { fit_rows = f.fit_rows; fit_triples = omega (arith, f.fit_triples, e) }
+  fit_same o o' e (Ok (Kept x)) f = record { fit_rows = f.fit_rows; fit_triples = omega (arith, f.fit_triples, e) }
+  fit_same o o' e (Err x) f = tt
 
   pub cut-room : (log : List ℕ) → Ready (st m log 0) → (o : List Float) → Fit rows o t → Room rows o (cut_piece_of s wall vs lens allowed pts closed t m d rows log o).left
   unfolding cut_piece_of

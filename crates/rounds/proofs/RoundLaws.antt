@@ -1,4 +1,5 @@
 -- What the proofs of `round` cite, over plain values: one piece cut in the workspace, and the loops over the pieces, whichever is next. Assumes nothing.
+use Rattle.passes.specs.Start.{Place}
 use mathlib.Core.Path.{◌≡◌, refl, sym, ap, ◌∙◌, subst}
 use mathlib.Core.Bool.{Bool, false}
 use mathlib.Core.List.{List, [], ◌++◌}
@@ -6,7 +7,7 @@ use Prim.Native.Nat.{ℕ, ◌+◌, ◌-◌, ◌*◌, ◌≤◌, ◌<◌}
 use native.Mathlib.Omega.{arith}
 use lib.ListN.{length, get_or}
 use lib.Ieee.{Float}
-use Rattle.loops.specs.Loop.{loop, Run, on, out, turn}
+use Rattle.loops.specs.Loop.{loop, Run, on, turn}
 use Rattle.loops.specs.Regions.{Fits, within, put}
 use Rattle.loops.specs.Frame.{Only}
 use Rattle.loops.proofs.LoopLaws.{Going, going_none, going_on, going_out, going_end}
@@ -27,19 +28,18 @@ use Rattle.pieces.proofs.PartLaws.{inner_part, inner-points}
 use Rattle.pieces.proofs.PieceLaws.{pieces-length, piece_get}
 use Rattle.events.specs.Events.{Event}
 use Rattle.passes.specs.Guide.{points_in}
-use Rattle.passes.specs.declared.start.Place.{Place}
 use Rattle.cutting.specs.Tries.{Among}
 use Rattle.cutting.specs.Piece.{Left, left_in, cut_piece_of, Lends, Listed, Settled, Behind}
 use Rattle.cutting.specs.declared.piece.State.{State}
+use Rattle.std.specs.Prelude.{Result, Ok, Err}
+use Rattle.cutting.specs.declared.listing.Full.{Full}
 use Rattle.cutting.specs.declared.piece.Cut.{Cut}
-use Rattle.cutting.specs.declared.piece.Cut.TheVariants.{Nothing, Kept, Refused}
+use Rattle.cutting.specs.declared.piece.Cut.TheVariants.{Nothing, Kept}
 use Rattle.workspace.specs.Standing.{abandoned_in, Standing, CellsKept}
 use Rattle.workspace.specs.Lies.{rows_in, traced_in, pieces_in, Lying, Lies}
 use Rattle.workspace.proofs.StandingLaws.{standing_fitted, standing-kept, walls_of_lem, cells_same, cells_more}
 use Rattle.rounds.specs.Next.{here_of, no_piece, next_of, swap_remove}
-use Rattle.rounds.specs.Round.{CutsLeft, cl, cuts_in, CutsWithEvents, Between, bt, answer_after, go_on, ended_of, cut_next_of, step_of, cut_all_of, nearest_first, in_order, all_stay, Traced, Lists}
-use Rattle.rounds.specs.declared.round.Cuts.{Cuts}
-use Rattle.rounds.specs.declared.round.Cuts.TheVariants.{After, Refused as Stopped}
+use Rattle.rounds.specs.Round.{Cuts, after_cut, CutsLeft, cl, cuts_in, CutsWithEvents, Between, bt, answer_after, go_on, ended_of, cut_next_of, step_of, cut_all_of, nearest_first, in_order, all_stay, Traced, Lists}
 use Rattle.rounds.proofs.RowsLaws.{row_traced, words_long, log-stays, left-lies, next_in_lem}
 use Rattle.rounds.proofs.RoomLaws.{Fit, FitAfter, cut-room}
 
@@ -62,6 +62,14 @@ module _ (n : ℕ) (b b' : List ℕ) (h : 8 * n ≤ length b) (S : Settled n b b
 
 -- ---- one piece
 
+pub answer_ok : (any : Bool) (a : Result Cut Full) (c : Cut) → a ≡ Ok c → (x : State × Bool) → x ≡ after_cut any c → Ok x ≡ answer_after any a
+unfolding answer_after
+answer_ok any a c e x h = ap Ok h ∙ sym (ap (answer_after any) e)
+
+pub answer-full : (any : Bool) (a : Result Cut Full) (f : Full) → a ≡ Err f → Err f ≡ answer_after any a
+unfolding answer_after
+answer-full any a f e = sym (ap (answer_after any) e)
+
 module _ (s : Setup) (vs : List Float) (lens b u : List ℕ) (w : List Float) (H : Standing s vs lens b u w) (p : Row) (T : Traced (cells_of s) p) (a : ℕ) (A : a ≡ traced_from (cells_of s)) where
   pub cut_asks : (rows : List ℕ) (o : List Float) (t : State) → Listed rows o t 0
       → Fitted s vs lens (map_in (cells_of s) b) w × (Lends (cells_of s) b u × (Among (cells_of s) (a + 2 * p.first) p.points × Listed rows o t 0))
@@ -74,7 +82,7 @@ module _ (s : Setup) (vs : List Float) (lens b u : List ℕ) (w : List Float) (H
   )
 
   -- the answer of the piece at its place is that of the row's piece
-  pub cut-next-is : (t : State) (any : Bool) (rows : List ℕ) (o : List Float) (b' u' rows' : List ℕ) (o' : List Float) (c : Cut) (r : Cuts)
+  pub cut-next-is : (t : State) (any : Bool) (rows : List ℕ) (o : List Float) (b' u' rows' : List ℕ) (o' : List Float) (c : Result Cut Full) (r : Cuts)
       → left_in (cells_of s) b' (log_in (cells_of s) u') rows' o' c
       ≡ (cut_piece_of s (wall_in s w) vs lens (allowed_in (cells_of s) b) (points_in (a + 2 * p.first) p.points w) p.closed t (map_in (cells_of s) b) (dirty_in (cells_of s) b) rows (log_in (cells_of s) u) o).left
       → r ≡ answer_after any c
@@ -92,14 +100,14 @@ module _ (s : Setup) (vs : List Float) (lens b u : List ℕ) (w : List Float) (H
 -- ---- what is listed fits
 
 abbrev FitCuts : List ℕ → List Float → Cuts → Type 0
-FitCuts rows o (After t any) = Fit rows o t
-FitCuts rows o (Stopped n) = Unit {0}
+FitCuts rows o (Ok (t, any)) = Fit rows o t
+FitCuts rows o (Err f) = Unit {0}
 
-fit_answer : (rows : List ℕ) (o : List Float) (any : Bool) (a : Cut) → FitAfter rows o a → FitCuts rows o (answer_after any a)
-unfolding answer_after
-fit_answer rows o any (Nothing t) f = f
-fit_answer rows o any (Kept t) f = f
-fit_answer rows o any (Refused n) f = tt
+fit_answer : (rows : List ℕ) (o : List Float) (any : Bool) (a : Result Cut Full) → FitAfter rows o a → FitCuts rows o (answer_after any a)
+unfolding answer_after after_cut
+fit_answer rows o any (Ok (Nothing t)) f = f
+fit_answer rows o any (Ok (Kept t)) f = f
+fit_answer rows o any (Err e) f = tt
 
 record CutsRoom (rows : List ℕ) (o : List Float) (l : CutsLeft) : Type 0 where
   rows_long : length l.rows ≡ length rows
@@ -180,7 +188,7 @@ module _ (s : Setup) (vs : List Float) (lens b₀ u₀ : List ℕ) (w₀ o₀ : 
       (sym (ap (λ (i : ℕ). loop (turn step) 0 i begin) (pieces-length m (rows_in size u₀) (traced_in size w₀)) ∙ e))
 
   module _ (left : ℕ) (b u : List ℕ) (w o : List Float) (rows : List ℕ) (t : State) (any : Bool) (k : ℕ) (C : Cutting left b u w o rows t any k) where
-    pub cutting_ends : m ≤ k → Done b u w o rows (After t any)
+    pub cutting_ends : m ≤ k → Done b u w o rows (Ok (t, any))
     unfolding ended_of
     cutting_ends h = (loop-all _ (sym (going_end _ _ _ _ _ _ C.going h)), (C.cells, (C.gone, (C.words, (C.only, record { rows_long = C.rows_long; out-long = C.out-long; listed = C.listed })))))
 
@@ -275,7 +283,7 @@ module _ (s : Setup) (vs : List Float) (lens b₀ u₀ : List ℕ) (w₀ o₀ : 
         out_still : length o' ≡ length o
         out_still = ap (λ (l : CutsLeft). length l.out) is-next ∙ room.out-long
 
-        listed-on : (t' : State) (any' : Bool) → r ≡ After t' any' → Listed rows' o' t' 0
+        listed-on : (t' : State) (any' : Bool) → r ≡ Ok (t', any') → Listed rows' o' t' 0
         listed-on t' any' e =
             let f : Fit rows o t' = subst (FitCuts rows o) (sym (ap (λ (l : CutsLeft). l.answer) is-next) ∙ e) room.fit in
             record {
@@ -284,14 +292,14 @@ module _ (s : Setup) (vs : List Float) (lens b₀ u₀ : List ℕ) (w₀ o₀ : 
               fit_triples = omega (arith, out_still, f.fit_triples);
             }
 
-        pub cutting_stops : (code : ℕ) → r ≡ Stopped code → Done b' u' w' o' rows' (Stopped code)
+        pub cutting_stops : (code : Full) → r ≡ Err code → Done b' u' w' o' rows' (Err code)
         unfolding go_on ended_of
         cutting_stops code e = (
-          ap (cuts_in size b' (log_in size u') rows' o') (sym e) ∙ is-next ∙ loop-all _ (going_out step 0 m begin _ k _ C.going h (turn_is (Stopped code) e)),
+          ap (cuts_in size b' (log_in size u') rows' o') (sym e) ∙ is-next ∙ loop-all _ (going_out step 0 m begin _ k _ C.going h (turn_is (Err code) e)),
           (cells-kept, (gone-kept, (words-kept, (only_kept, record { rows_long = rows_still ∙ C.rows_long; out-long = out_still ∙ C.out-long; listed = tt })))),
         )
 
-        pub cutting_more : (t' : State) (any' : Bool) → r ≡ After t' any' → Cutting left' b' u' w' o' rows' t' any' (k + 1)
+        pub cutting_more : (t' : State) (any' : Bool) → r ≡ Ok (t', any') → Cutting left' b' u' w' o' rows' t' any' (k + 1)
         unfolding go_on
         cutting_more t' any' e = record {
           standing = standing-kept s vs lens b u w C.standing w' (walls_of_lem s vs lens b u w C.standing (guide_from size) (path_end size) w' (omega arith) (omega arith) (omega arith) O) b' u' S.long (B.long ∙ T.same-long);
@@ -306,7 +314,7 @@ module _ (s : Setup) (vs : List Float) (lens b₀ u₀ : List ℕ) (w₀ o₀ : 
           lies = lies-on;
           events = _;
           going = going_on step 0 m begin _ _ k C.going h
-              (ap (λ (l : CutsLeft). on (bt (rest number C.pieces) t' any' l.map l.dirty l.log l.rows l.out (C.events ++ next.events))) is-next ∙ sym (turn_is (After t' any') e));
+              (ap (λ (l : CutsLeft). on (bt (rest number C.pieces) t' any' l.map l.dirty l.log l.rows l.out (C.events ++ next.events))) is-next ∙ sym (turn_is (Ok (t', any')) e));
         }
 
 -- ---- the two orders

@@ -1,4 +1,5 @@
 -- Demand 3 over a round's pieces, whichever is next: what holds before them holds after them. Assumes nothing.
+use Rattle.passes.specs.Start.{Place}
 use mathlib.Core.Path.{◌≡◌, refl, sym, ap, ◌∙◌, subst}
 use mathlib.Core.Bool.{Bool}
 use mathlib.Core.List.{List, [], ◌++◌, append_assoc, append-nil}
@@ -16,23 +17,22 @@ use Rattle.events.specs.Events.{Event, State, after, Fit}
 use Rattle.events.specs.Told.{events_of, Demand3}
 use Rattle.events.proofs.Demand.{demand3}
 use Rattle.passes.specs.Tried.{job_at}
-use Rattle.passes.specs.declared.start.Place.{Place}
 use Rattle.cutting.specs.Piece.{Left, WithEvents, cut_piece_of}
 use Rattle.cutting.specs.declared.piece.State.{State as Plan}
+use Rattle.std.specs.Prelude.{Result, Ok, Err}
+use Rattle.cutting.specs.declared.listing.Full.{Full}
 use Rattle.cutting.specs.declared.piece.Cut.{Cut}
-use Rattle.cutting.specs.declared.piece.Cut.TheVariants.{Nothing, Kept, Refused}
+use Rattle.cutting.specs.declared.piece.Cut.TheVariants.{Nothing, Kept}
 use Rattle.cutting.proofs.CutTold.{Planned, Agrees, Answers, CutTold, cut-told}
 use Rattle.rounds.specs.Next.{no_piece, swap_remove}
-use Rattle.rounds.specs.Round.{cl, CutsWithEvents, cuts_with, Between, bt, answer_after, go_on, ended_of, cut_next_of, step_of, cut_all_of, nearest_first, cut_pieces_of, in_order, all_stay, cut_ring_of}
-use Rattle.rounds.specs.declared.round.Cuts.{Cuts}
-use Rattle.rounds.specs.declared.round.Cuts.TheVariants.{After, Refused as Stopped}
+use Rattle.rounds.specs.Round.{Cuts, after_cut, cl, CutsWithEvents, cuts_with, Between, bt, answer_after, go_on, ended_of, cut_next_of, step_of, cut_all_of, nearest_first, cut_pieces_of, in_order, all_stay, cut_ring_of}
 
 -- ---- the claim
 
 -- a refusal ends the plan
 abbrev pub AnswersAll : State → Cuts → Type 0
-AnswersAll e (After t any) = Agrees e t
-AnswersAll e (Stopped n) = Unit {0}
+AnswersAll e (Ok (t, any)) = Agrees e t
+AnswersAll e (Err f) = Unit {0}
 
 -- q came of the map m, the log's slice l, rows and triples after the events es
 pub record RoundTold (j : Job) (es : List Event) (m gone l rows : List ℕ) (o : List Float) (q : CutsWithEvents) : Type 0 where
@@ -48,17 +48,17 @@ pub record RoundTold (j : Job) (es : List Event) (m gone l rows : List ℕ) (o :
 
 -- ---- one piece more
 
-answers_all : (e : State) (any : Bool) (a : Cut) → Answers e a → AnswersAll e (answer_after any a)
-unfolding answer_after
-answers_all e any (Nothing t) h = h
-answers_all e any (Kept t) h = h
-answers_all e any (Refused n) h = tt
+answers_all : (e : State) (any : Bool) (a : Result Cut Full) → Answers e a → AnswersAll e (answer_after any a)
+unfolding answer_after after_cut
+answers_all e any (Ok (Nothing t)) h = h
+answers_all e any (Ok (Kept t)) h = h
+answers_all e any (Err f) h = tt
 
 -- what is left after the piece c behind the events es, however it goes on
 ended_goes : (l : List Piece) (es : List Event) (c : CutsWithEvents) (x : Cuts) → c.left.answer ≡ x → cuts_with c.left (es ++ c.events) ≡ ended_of (go_on l es c x)
 unfolding go_on ended_of
-ended_goes l es c (After t any) e = ap (λ (x : Cuts). cuts_with (cl c.left.map c.left.dirty c.left.log c.left.rows c.left.out x) (es ++ c.events)) e
-ended_goes l es c (Stopped n) e = refl
+ended_goes l es c (Ok (t, any)) e = ap (λ (x : Cuts). cuts_with (cl c.left.map c.left.dirty c.left.log c.left.rows c.left.out x) (es ++ c.events)) e
+ended_goes l es c (Err f) e = refl
 
 module _ (s : Setup) (wall vs : List Float) (lens start : List ℕ) (limit : Float) (entry : Entry) (S : Sides s.grid) (M : Measured s) where
   abbrev job : Job

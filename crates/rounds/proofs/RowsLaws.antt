@@ -1,4 +1,5 @@
 -- The rows of a round's pieces in the workspace: read there, and one taken out. Assumes nothing.
+use Rattle.passes.specs.Start.{Place}
 use mathlib.Core.Path.{◌≡◌, sym, ap, ◌∙◌, subst}
 use mathlib.Core.List.{List}
 use Prim.Native.Nat.{ℕ, ◌+◌, ◌-◌, ◌*◌, ◌≤◌, ◌<◌}
@@ -18,7 +19,6 @@ use Rattle.pieces.specs.Piece.{Piece, row_at, put_row, piece_of, pieces_at, end_
 use Rattle.pieces.specs.declared.row.Row.{Row}
 use Rattle.pieces.proofs.PieceLaws.{row-length, row_here, row_there, pieces-length, piece_get}
 use Rattle.workspace.specs.Lies.{rows_in, traced_in, pieces_in, Lying, Lies}
-use Rattle.passes.specs.declared.start.Place.{Place}
 use Rattle.rounds.specs.Next.{here_of, no_piece, next_of, swap_remove, Readable}
 use Rattle.rounds.specs.Round.{Traced}
 use Rattle.rounds.proofs.NextLaws.{next-below}

@@ -1,6 +1,6 @@
 -- Which piece of a round is cut next, as `plan` of adaptive.rs has it ("Near pieces first"); of equally near ones the longer, by wish 7 of document 02.
 -- Definitions only.
-use Rattle.std.specs.Prelude.{ℕ, ◌-◌, ◌*◌, ◌≤◌, ◌<◌, Bool, false, cond, List, [], length, get_or, take, set, ltb, Float}
+use Rattle.std.specs.Prelude.{ℕ, ◌-◌, ◌*◌, ◌≤◌, ◌<◌, Bool, false, cond, List, [], length, get_or, take, set, ltb, Float, Some, None}
 use Rattle.std.specs.Float.{inf}
 use Rattle.loops.specs.Least.{then_by, least_by}
 use Rattle.loops.specs.Each.{over}
@@ -10,15 +10,13 @@ use Rattle.geom.specs.declared.vec2.Vec2.{Vec2}
 use Rattle.pieces.specs.Piece.{Piece, row_at, end_of}
 use Rattle.pieces.specs.declared.row.Row.{Row}
 use Rattle.passes.specs.Simulate.{nowhere}
-use Rattle.passes.specs.Start.{is_nearer}
-use Rattle.passes.specs.declared.start.Place.{Place}
-use Rattle.passes.specs.declared.start.Place.TheVariants.{At, Nowhere}
+use Rattle.passes.specs.Start.{Place, is_nearer}
 use Rattle.rounds.specs.declared.next.Candidate.{Candidate}
 
 -- pos.unwrap_or(Vec2::ZERO)
 unfoldable pub here_of : Place → Vec2
-here_of Nowhere = v2 f0 f0
-here_of (At p) = p
+here_of None = v2 f0 f0
+here_of (Some p) = p
 
 -- ---- how far a piece is
 

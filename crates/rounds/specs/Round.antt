@@ -1,20 +1,23 @@
 -- The pieces of a round cut one after another, as `plan` of adaptive.rs has it: the nearest to the tool first, and along the ring in order. A refusal ends it.
 -- Definitions only.
-use Rattle.std.specs.Prelude.{ℕ, ◌*◌, ◌≤◌, ◌≡◌, Bool, true, false, List, [], ◌++◌, length, get_or, Float}
+use Rattle.std.specs.Prelude.{ℕ, ◌*◌, ◌≤◌, ◌≡◌, Bool, true, false, List, [], ◌++◌, length, get_or, Result, Ok, Err, Float}
+use Rattle.passes.specs.Start.{Place}
 use Rattle.loops.specs.Loop.{loop, Run, on, out, turn}
 use Rattle.setup.specs.Layout.{map_in, dirty_in}
 use Rattle.setup.specs.declared.Setup.{Setup}
 use Rattle.pieces.specs.Piece.{Piece, end_of}
 use Rattle.pieces.specs.declared.row.Row.{Row}
 use Rattle.events.specs.Events.{Event}
-use Rattle.passes.specs.declared.start.Place.{Place}
 use Rattle.cutting.specs.Piece.{cut_piece_of, Listed}
 use Rattle.cutting.specs.declared.piece.State.{State}
 use Rattle.cutting.specs.declared.piece.Cut.{Cut}
-use Rattle.cutting.specs.declared.piece.Cut.TheVariants.{Nothing, Kept, Refused}
+use Rattle.cutting.specs.declared.piece.Cut.TheVariants.{Nothing, Kept}
+use Rattle.cutting.specs.declared.listing.Full.{Full}
 use Rattle.rounds.specs.Next.{here_of, no_piece, next_of, swap_remove}
-use Rattle.rounds.specs.declared.round.Cuts.{Cuts}
-use Rattle.rounds.specs.declared.round.Cuts.TheVariants.{After, Refused as Stopped}
+
+-- the state after the pieces, and whether a pass was kept; or what is full
+abbrev pub Cuts : Type 0
+Cuts = Result (State × Bool) Full
 
 -- what is left of map, dirty cells, log, rows and triples, and the answer
 pub record CutsLeft : Type 0 where
@@ -58,18 +61,21 @@ bt p t any m d l r o es = record { pieces = p; state = t; any = any; map = m; di
 -- ---- one piece
 
 -- if self.cut_piece(&piece) { any = true }
-unfoldable pub answer_after : Bool → Cut → Cuts
-answer_after any (Nothing t) = After t any
-answer_after any (Kept t) = After t true
-answer_after any (Refused n) = Stopped n
+unfoldable pub after_cut : Bool → Cut → State × Bool
+after_cut any (Nothing t) = (t, any)
+after_cut any (Kept t) = (t, true)
+
+unfoldable pub answer_after : Bool → Result Cut Full → Cuts
+answer_after any (Ok c) = Ok (after_cut any c)
+answer_after any (Err f) = Err f
 
 -- the pieces l are to come, unless it was refused
 unfoldable pub go_on : List Piece → List Event → CutsWithEvents → Cuts → Run Between CutsWithEvents
-go_on l es c (After t any) = let k = c.left in on (bt l t any k.map k.dirty k.log k.rows k.out (es ++ c.events))
-go_on l es c (Stopped n) = out (cuts_with c.left (es ++ c.events))
+go_on l es c (Ok (t, any)) = let k = c.left in on (bt l t any k.map k.dirty k.log k.rows k.out (es ++ c.events))
+go_on l es c (Err f) = out (cuts_with c.left (es ++ c.events))
 
 unfoldable pub ended_of : Run Between CutsWithEvents → CutsWithEvents
-ended_of (on q) = cuts_with (cl q.map q.dirty q.log q.rows q.out (After q.state q.any)) q.events
+ended_of (on q) = cuts_with (cl q.map q.dirty q.log q.rows q.out (Ok (q.state, q.any))) q.events
 ended_of (out c) = c
 
 module _ (s : Setup) (wall vs : List Float) (lens allowed : List ℕ) where
@@ -121,8 +127,8 @@ pub record Traced (n : ℕ) (r : Row) : Type 0 where
 
 -- a refusal ends the plan
 abbrev pub ListedAfter : List ℕ → List Float → Cuts → Type 0
-ListedAfter rows o (After t any) = Listed rows o t 0
-ListedAfter rows o (Stopped n) = Unit {0}
+ListedAfter rows o (Ok (t, any)) = Listed rows o t 0
+ListedAfter rows o (Err f) = Unit {0}
 
 -- rows and triples are as long as before, and what is listed lies in them
 pub record Lists (rows rows' : List ℕ) (o o' : List Float) (r : Cuts) : Type 0 where

@@ -10,7 +10,7 @@ ghost use Rattle.rounds.specs.Next.{here_of, closer, piece_far, candidate_of, lo
 use geom::region::vertex;
 use geom::vec2::Vec2;
 use numbers::order::min;
-use passes::start::{Place, is_nearer};
+use passes::start::is_nearer;
 use pieces::row::{Row, row_at};
 
 // What a piece is chosen by; `at` is its number.
@@ -22,13 +22,10 @@ pub struct Candidate {
 }
 
 // Where distances are measured from; the origin while the tool is nowhere.
-pub fn here(pos: Place) -> Vec2
+pub fn here(pos: Option<Vec2>) -> Vec2
     ensures { result ≡ here_of pos }
 {
-    match pos {
-        Place::At(p) => p,
-        Place::Nowhere => Vec2 { x: 0.0, y: 0.0 },
-    }
+    pos.unwrap_or(Vec2 { x: 0.0, y: 0.0 })
 }
 
 // How far the nearest of n points is.

@@ -8,33 +8,25 @@ ghost use Rattle.links.specs.Path.{wall_in};
 ghost use Rattle.cutting.specs.Piece.{Listed, Settled, Behind};
 ghost use Rattle.workspace.specs.Standing.{abandoned_in, Standing, CellsKept};
 ghost use Rattle.workspace.specs.Lies.{traced_in, pieces_in, Lying};
-ghost use Rattle.rounds.specs.Round.{cuts_in, answer_after, cut_next_of, cut_pieces_of, cut_ring_of, Traced, Lists};
+ghost use Rattle.rounds.specs.Round.{cuts_in, after_cut, cut_next_of, cut_pieces_of, cut_ring_of, Traced, Lists};
 
 use super::rows::{read, take_nearest};
+use cutting::listing::Full;
 use cutting::piece::{Cut, State, cut_piece};
 use pieces::row::Row;
 use setup::{Setup, layout};
 
-// What became of a round's pieces: the state after them, and whether a pass was kept; or document 01's
-// refusal 16 or 17.
-#[derive(Clone, Copy)]
-pub enum Cuts {
-    After(State, bool),
-    Refused(u32),
-}
-
-// The answer of one piece, `any` saying whether a pass was kept before it.
-fn after(c: Cut, any: bool) -> Cuts
-    ensures { result ≡ answer_after any c }
+// The state after a piece, and whether a pass is kept by now, `any` saying whether one was before it.
+fn after(c: Cut, any: bool) -> (State, bool)
+    ensures { result ≡ after_cut any c }
 {
     match c {
-        Cut::Nothing(t) => Cuts::After(t, any),
-        Cut::Kept(t) => Cuts::After(t, true),
-        Cut::Refused(no) => Cuts::Refused(no),
+        Cut::Nothing(t) => (t, any),
+        Cut::Kept(t) => (t, true),
     }
 }
 
-// Cuts the piece of the row p.
+// Cuts the piece of the row p: the state after it, and whether a pass is kept by now.
 fn cut_next(
     s: Setup,
     t: State,
@@ -47,7 +39,7 @@ fn cut_next(
     triples: &mut [f64],
     rows: &mut [u32],
     p: Row,
-) -> Cuts
+) -> Result<(State, bool), Full>
     requires standing { Standing s vs.now lens.now b.old u.old w.old }
     requires traced { Traced (cells_of s) p }
     requires listed { Listed rows.old triples.old t 0 }
@@ -59,11 +51,11 @@ fn cut_next(
     let n = s.grid.ny * s.grid.nx;
     let from = layout::traced(n) + 2 * (p.first as usize);
     let m = p.points as usize;
-    let c = cut_piece(s, t, vs, lens, b, u, w, triples, rows, from, m, p.closed);
-    after(c, any)
+    let c = cut_piece(s, t, vs, lens, b, u, w, triples, rows, from, m, p.closed)?;
+    Ok(after(c, any))
 }
 
-// Cuts the m pieces of a round, the nearest to the tool first.
+// Cuts the m pieces of a round, the nearest to the tool first: the state after them, and whether a pass was kept.
 pub fn cut_pieces(
     s: Setup,
     t: State,
@@ -75,7 +67,7 @@ pub fn cut_pieces(
     triples: &mut [f64],
     rows: &mut [u32],
     m: usize,
-) -> Cuts
+) -> Result<(State, bool), Full>
     requires standing { Standing s vs.now lens.now b.old u.old w.old }
     requires lying { Lying (cells_of s) m u.old }
     requires listed { Listed rows.old triples.old t 0 }
@@ -92,19 +84,12 @@ pub fn cut_pieces(
     for i in 0..m {
         let pos = at.pos;
         let p = take_nearest(u, w, n, m - i, pos);
-        let c = cut_next(s, at, any, vs, lens, b, u, w, triples, rows, p);
-        match c {
-            Cuts::After(next, kept) => {
-                at = next;
-                any = kept;
-            }
-            Cuts::Refused(no) => return Cuts::Refused(no),
-        }
+        (at, any) = cut_next(s, at, any, vs, lens, b, u, w, triples, rows, p)?;
     }
-    Cuts::After(at, any)
+    Ok((at, any))
 }
 
-// Cuts the m pieces of the ring, in order.
+// Cuts the m pieces of the ring, in order, with the same answer.
 pub fn cut_ring(
     s: Setup,
     t: State,
@@ -116,7 +101,7 @@ pub fn cut_ring(
     triples: &mut [f64],
     rows: &mut [u32],
     m: usize,
-) -> Cuts
+) -> Result<(State, bool), Full>
     requires standing { Standing s vs.now lens.now b.old u.old w.old }
     requires lying { Lying (cells_of s) m u.old }
     requires listed { Listed rows.old triples.old t 0 }
@@ -132,14 +117,7 @@ pub fn cut_ring(
     let mut any = false;
     for i in 0..m {
         let p = read(u, n, i);
-        let c = cut_next(s, at, any, vs, lens, b, u, w, triples, rows, p);
-        match c {
-            Cuts::After(next, kept) => {
-                at = next;
-                any = kept;
-            }
-            Cuts::Refused(no) => return Cuts::Refused(no),
-        }
+        (at, any) = cut_next(s, at, any, vs, lens, b, u, w, triples, rows, p)?;
     }
-    Cuts::After(at, any)
+    Ok((at, any))
 }

@@ -7,7 +7,7 @@ ghost use Rattle.workspace.specs.Lies.{rows_in, pieces_in, Lying};
 ghost use Rattle.rounds.specs.Next.{here_of, next_of};
 
 use super::next::{here, nearest};
-use passes::start::Place;
+use geom::vec2::Vec2;
 use pieces::row::{Row, put_row, row_at};
 use setup::layout;
 use workspace::places;
@@ -38,7 +38,7 @@ fn swap_remove(rows: &mut [u32], m: usize, k: usize) -> Row
 }
 
 // The number of the row whose piece is nearest to the tool, of m.
-fn next(u: &[u32], w: &[f64], n: usize, m: usize, pos: Place) -> usize
+fn next(u: &[u32], w: &[f64], n: usize, m: usize, pos: Option<Vec2>) -> usize
     requires n_le_most { n ≤ most }
     requires n_in_bounds { 24 * n ≤ length u.now }
     requires n_in_bounds_2 { 5 * n ≤ length w.now }
@@ -54,7 +54,7 @@ fn next(u: &[u32], w: &[f64], n: usize, m: usize, pos: Place) -> usize
 }
 
 // The row of the nearest of m pieces, taken out.
-pub fn take_nearest(u: &mut [u32], w: &[f64], n: usize, m: usize, pos: Place) -> Row
+pub fn take_nearest(u: &mut [u32], w: &[f64], n: usize, m: usize, pos: Option<Vec2>) -> Row
     requires n_le_most { n ≤ most }
     requires n_in_bounds { 24 * n ≤ length u.old }
     requires n_in_bounds_2 { 5 * n ≤ length w.now }

@@ -2,7 +2,7 @@
 -- Assumes nothing.
 use mathlib.Core.Path.{◌≡◌, refl, ap, ◌∙◌}
 use mathlib.Core.Bool.{true, false}
-use Prim.Native.Nat.{ℕ, ◌≤◌, ◌<◌, min, max}
+use Prim.Native.Nat.{ℕ, min, max}
 use native.Mathlib.Omega.{arith}
 use lib.Dec.{T}
 use lib.Ieee.{Float, nan, inf, fin, binary64, of_bits, mul, div, lt, le, eq, is_nan, fits, to_unsigned}
@@ -27,14 +27,8 @@ module _ (r cell x : Float) (n : ℕ) (X : x ≡ ceil_of (div binary64 (mul bina
   unfolding samples_for
   few m e = e ∙ ap (λ (k : ℕ). min (max k 64) 2048) (N ∙ ap (to_unsigned 64) X)
 
-  pub samples-least : n < 64 → 64 ≡ samples_for r cell
-  samples-least h = few 64 (omega arith)
-
-  pub samples-most : 64 ≤ n → 2048 < n → 2048 ≡ samples_for r cell
-  samples-most h k = few 2048 (omega arith)
-
-  pub samples-same : 64 ≤ n → n ≤ 2048 → n ≡ samples_for r cell
-  samples-same h k = few n (omega arith)
+  pub samples-is : (m : ℕ) → m ≡ max 64 (min n 2048) → m ≡ samples_for r cell
+  samples-is m e = few m (omega arith)
 
 -- ---- the limit of an engagement of 1 to 180 degrees, in radians
 

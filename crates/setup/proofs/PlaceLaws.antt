@@ -1,4 +1,5 @@
 -- What the proofs of `place` cite. Assumes nothing.
+use Rattle.std.specs.Prelude.{None, Option, Some}
 use mathlib.Core.Path.{◌≡◌}
 use mathlib.Core.Bool.{Bool, true, false}
 use mathlib.Core.List.{List}
@@ -12,26 +13,24 @@ use Rattle.geom.specs.Segment.{any_within}
 use Rattle.geom.specs.declared.vec2.Vec2.{Vec2}
 use Rattle.raster.specs.Grid.{cell_of}
 use Rattle.raster.specs.declared.grid.Grid.{Grid}
-use Rattle.raster.specs.declared.grid.Found.{Found}
-use Rattle.raster.specs.declared.grid.Found.TheVariants.{Nothing, At}
 use Rattle.setup.specs.Place.{wall_at, allowed_at, bite_of}
 use Rattle.setup.specs.declared.Setup.{Setup}
 
-module _ (g : Grid) (wall : List Float) (keep : Float) (p : Vec2) (f : Found) (F : f ≡ cell_of g p) where
-  pub wall-none : f ≡ Nothing → false ≡ wall_at g wall keep p
+module _ (g : Grid) (wall : List Float) (keep : Float) (p : Vec2) (f : Option (ℕ × ℕ)) (F : f ≡ cell_of g p) where
+  pub wall-none : f ≡ None → false ≡ wall_at g wall keep p
   unfolding wall_at
   wall-none e = rw (← F, e)
 
-  pub wall-some : (i j k : ℕ) → f ≡ At i j → k ≡ j * g.nx + i → le keep (add binary64 (get_or wall k nan) (mul binary64 f2 g.cell)) ≡ wall_at g wall keep p
+  pub wall-some : (i j k : ℕ) → f ≡ Some (i, j) → k ≡ j * g.nx + i → le keep (add binary64 (get_or wall k nan) (mul binary64 f2 g.cell)) ≡ wall_at g wall keep p
   unfolding wall_at
   wall-some i j k e h = rw (← F, e, h)
 
-module _ (s : Setup) (wall vs : List Float) (lens : List ℕ) (p : Vec2) (w : Bool) (W : w ≡ wall_at s.grid wall s.keep p) where
+module _ (s : Setup) (wall vs : List Float) (lens : List ℕ) (p : Vec2) (w : Bool) (W : w ≡ wall_at s.grid wall s.keep.r p) where
   pub allowed-far : w ≡ false → false ≡ allowed_at s wall vs lens p
   unfolding allowed_at
   allowed-far e = rw (← W, e)
 
-  module _ (e : w ≡ true) (t : Bool) (T : t ≡ any_within vs lens s.region p s.keep) where
+  module _ (e : w ≡ true) (t : Bool) (T : t ≡ any_within vs lens s.region p s.keep.r) where
     pub allowed-near : t ≡ true → false ≡ allowed_at s wall vs lens p
     unfolding allowed_at
     allowed-near d = rw (← W, e, ← T, d)

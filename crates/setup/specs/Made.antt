@@ -3,6 +3,8 @@ use Rattle.std.specs.Prelude.{◌≡◌, Bool, true, Float}
 use Rattle.std.specs.Float.{binary64}
 use Rattle.std.specs.Float.Ieee.{add, mul, le}
 use Rattle.numbers.specs.Bound.{bound_of}
+use Rattle.numbers.specs.declared.bound.Bound.{Bound}
+use Rattle.numbers.proofs.BoundLaws.{bounds_of}
 use Rattle.numbers.specs.Circle.{radians_of}
 use Rattle.numbers.specs.Small.{half, quarter}
 use Rattle.geom.specs.declared.region.Region.{Region}
@@ -17,19 +19,21 @@ widened_by r cell = add binary64 r (mul binary64 quarter cell)
 abbrev pub widened : Setup → Float
 widened s = widened_by s.r s.grid.cell
 
+-- a number with the bound that is found for it
+unfoldable pub decided : Float → Bound
+decided r = record { r = r; below = bound_of r; bounds = bounds_of r }
+
 -- the radius is half the diameter; walls are kept at the radius and the stock to leave; the limit is the engagement in radians
 unfoldable pub setup_of : Grid → Region → Float → Float → Float → Bool → Setup
 setup_of g region diameter leave degrees down =
     let r = mul binary64 diameter half in
-    let keep = add binary64 r leave in
     let guard = guard_of (radians_of degrees) g.cell r in
     record {
       grid = g;
       region = region;
       r = r;
       r_guard = widened_by r g.cell;
-      keep = keep;
-      bound = bound_of keep;
+      keep = decided (add binary64 r leave);
       target = target_of guard;
       guard = guard;
       samples = samples_for r g.cell;

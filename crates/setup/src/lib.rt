@@ -5,7 +5,6 @@
 ghost use Rattle.std.specs.Prelude.{◌≡◌};
 ghost use Rattle.setup.specs.Made.{setup_of};
 
-pub mod fill;
 pub mod layout;
 pub mod limits;
 pub mod place;
@@ -16,16 +15,14 @@ use numbers::bound::Bound;
 use raster::grid::Grid;
 
 // The tool's radius is r; r_guard is the wider one that contact is measured at; `keep` is how far the
-// tool's centre keeps from walls, and `bound` decides distances below it. Contact is at most `guard` and
-// aims at `target`.
+// tool's centre keeps from walls. Contact is at most `guard` and aims at `target`.
 #[derive(Clone, Copy)]
 pub struct Setup {
     pub grid: Grid,
     pub region: Region,
     pub r: f64,
     pub r_guard: f64,
-    pub keep: f64,
-    pub bound: Bound,
+    pub keep: Bound,
     pub target: f64,
     pub guard: f64,
     pub samples: usize,
@@ -45,8 +42,7 @@ impl Setup {
         ensures { result ≡ setup_of grid region diameter leave degrees keep_down }
     {
         let r = diameter * 0.5;
-        let keep = r + leave;
-        let bound = numbers::bound::bound_of(keep);
+        let keep = Bound::of(r + leave);
         let guard = limits::guard_of(numbers::circle::to_radians(degrees), grid.cell, r);
         Setup {
             grid,
@@ -54,7 +50,6 @@ impl Setup {
             r,
             r_guard: r + 0.25 * grid.cell,
             keep,
-            bound,
             target: limits::target_of(guard),
             guard,
             samples: limits::samples_of(r, grid.cell),

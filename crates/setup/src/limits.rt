@@ -24,11 +24,5 @@ pub fn samples_of(r: f64, cell: f64) -> usize
     ensures { result ≡ samples_for r cell }
 {
     let n = numbers::cast::sat_u64(numbers::whole::ceil(4.0 * PI * r / cell)) as usize;
-    if n < 64 {
-        64
-    } else if 2048 < n {
-        2048
-    } else {
-        n
-    }
+    n.clamp(64, 2048)
 }

@@ -10,7 +10,7 @@ ghost use Rattle.setup.specs.Place.{Walls, wall_at, allowed_at, free_at, contact
 use super::Setup;
 use geom::vec2::Vec2;
 use raster::contact::{Contact, samples_of};
-use raster::grid::{Found, Grid};
+use raster::grid::Grid;
 use rims::contact::rim_hits;
 
 // Whether the wall distance of p's cell, and twice a cell, reach `keep`: the cheap test.
@@ -19,7 +19,7 @@ fn wall_at(g: Grid, wall: &[f64], keep: f64, p: Vec2) -> bool
     ensures { result ≡ wall_at g wall.now keep p }
 {
     let f = raster::grid::cell_of(g, p);
-    let Found::At(i, j) = f else {
+    let Some((i, j)) = f else {
         return false;
     };
     let k = raster::grid::index_of(raster::grid::cell_no(g, i, j));
@@ -33,9 +33,9 @@ pub fn allowed_at(s: Setup, wall: &[f64], vs: &[f64], lens: &[u32], p: Vec2) -> 
 {
     let g = s.grid;
     let region = s.region;
-    let bound = s.bound;
-    if wall_at(g, wall, s.keep, p) {
-        if geom::segment::any_within(vs, lens, region, p, s.keep, bound) {
+    let keep = s.keep;
+    if wall_at(g, wall, keep.r, p) {
+        if geom::segment::any_within(vs, lens, region, p, keep) {
             return false;
         }
         return geom::region::contains(vs, lens, region, p);

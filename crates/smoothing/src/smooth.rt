@@ -1,7 +1,6 @@
 // Smoothing of traced curves: averaging with the neighbours takes out the raster's stair steps, then
 // points closer than a cell are dropped.
 ghost use Rattle.std.specs.Prelude.{◌≡◌, ◌+◌, ◌*◌, ◌≤◌, ◌<◌, length};
-ghost use Rattle.numbers.specs.Bound.{Bounds};
 ghost use Rattle.geom.specs.Points.{points};
 ghost use Rattle.smoothing.specs.Smooth.{mean_of, held_at, averaged, next_of, avg, average_put, spaced, kpt, keep_put, same_point, resampled, smooth_of, Begins, SmoothedRow, SmoothedAll};
 ghost use Rattle.pieces.specs.Piece.{row_at, put_row, cut_to, end_of, Laid};
@@ -70,17 +69,15 @@ fn average(pts: &mut [f64], n: usize, closed: bool)
     }
 }
 
-// Keeps point k as point `kept` if it is at least a cell from the one before; how many are kept. The
-// bound of the cell stands for a root of each point.
-fn keep_at(pts: &mut [f64], cell: f64, bound: Bound, k: usize, kept: usize) -> usize
+// Keeps point k as point `kept` if it is at least a cell from the one before; how many are kept.
+fn keep_at(pts: &mut [f64], cell: Bound, k: usize, kept: usize) -> usize
     requires kept_nonzero { (0 < kept) × (kept ≤ k) }
     requires k_in_bounds { 2 * k + 1 < length pts.old }
-    requires bounds { Bounds cell bound }
-    ensures { kpt pts.new result ≡ keep_put cell k (kpt pts.old kept) }
+    ensures { kpt pts.new result ≡ keep_put cell.r k (kpt pts.old kept) }
 {
     let p = vertex(pts, k);
     let last = vertex(pts, kept - 1);
-    if numbers::bound::root_reaches(last.square(p), cell, bound) {
+    if cell.root_reaches(last.square(p)) {
         put(pts, kept, p);
         return kept + 1;
     }
@@ -88,15 +85,14 @@ fn keep_at(pts: &mut [f64], cell: f64, bound: Bound, k: usize, kept: usize) -> u
 }
 
 // Drops points closer than a cell to the last one kept, in place; how many are kept.
-fn keep(pts: &mut [f64], n: usize, cell: f64, bound: Bound) -> usize
+fn keep(pts: &mut [f64], n: usize, cell: Bound) -> usize
     requires n_nonzero { 0 < n }
     requires n_in_bounds { 2 * n ≤ length pts.old }
-    requires bounds { Bounds cell bound }
-    ensures { Begins (spaced cell (points 0 n pts.old)) n pts.old result pts.new }
+    ensures { Begins (spaced cell.r (points 0 n pts.old)) n pts.old result pts.new }
 {
     let mut kept = 1;
     for k in 1..n {
-        kept = keep_at(pts, cell, bound, k, kept);
+        kept = keep_at(pts, cell, k, kept);
     }
     kept
 }
@@ -108,14 +104,13 @@ fn same(a: Vec2, b: Vec2) -> bool
 }
 
 // Points at least a cell apart; an open piece keeps its end.
-fn resample(pts: &mut [f64], n: usize, closed: bool, cell: f64, bound: Bound) -> usize
+fn resample(pts: &mut [f64], n: usize, closed: bool, cell: Bound) -> usize
     requires lt_n { 1 < n }
     requires n_in_bounds { 2 * n ≤ length pts.old }
-    requires bounds { Bounds cell bound }
-    ensures { Begins (resampled closed cell (points 0 n pts.old)) n pts.old result pts.new }
+    ensures { Begins (resampled closed cell.r (points 0 n pts.old)) n pts.old result pts.new }
 {
     let end = vertex(pts, n - 1);
-    let kept = keep(pts, n, cell, bound);
+    let kept = keep(pts, n, cell);
     if closed {
         return kept;
     }
@@ -128,10 +123,9 @@ fn resample(pts: &mut [f64], n: usize, closed: bool, cell: f64, bound: Bound) ->
 }
 
 // Smooths the n points; how many are left.
-fn smooth(pts: &mut [f64], n: usize, closed: bool, cell: f64, bound: Bound) -> usize
+fn smooth(pts: &mut [f64], n: usize, closed: bool, cell: Bound) -> usize
     requires n_in_bounds { 2 * n ≤ length pts.old }
-    requires bounds { Bounds cell bound }
-    ensures { Begins (smooth_of closed cell (points 0 n pts.old)) n pts.old result pts.new }
+    ensures { Begins (smooth_of closed cell.r (points 0 n pts.old)) n pts.old result pts.new }
 {
     if n < 3 {
         return n;
@@ -139,22 +133,21 @@ fn smooth(pts: &mut [f64], n: usize, closed: bool, cell: f64, bound: Bound) -> u
     for t in 0..3usize {
         average(pts, n, closed);
     }
-    resample(pts, n, closed, cell, bound)
+    resample(pts, n, closed, cell)
 }
 
 // Smooths the points of row k; how many are left.
-fn smooth_row(rows: &mut [u32], pts: &mut [f64], k: usize, cell: f64, bound: Bound) -> usize
+fn smooth_row(rows: &mut [u32], pts: &mut [f64], k: usize, cell: Bound) -> usize
     requires k_in_bounds { 3 * k + 2 < length rows.old }
     requires k_in_bounds_2 { 2 * end_of (row_at rows.old k) ≤ length pts.old }
-    requires bounds { Bounds cell bound }
     ensures rows_after { rows.new ≡ put_row k (cut_to result (row_at rows.old k)) rows.old }
-    ensures smoothed_row { SmoothedRow cell (row_at rows.old k) pts.old result pts.new }
+    ensures smoothed_row { SmoothedRow cell.r (row_at rows.old k) pts.old result pts.new }
 {
     let p = row_at(rows, k);
     let n = p.points as usize;
     let a = 2 * (p.first as usize);
     let e = a + 2 * n;
-    let m = smooth(&mut pts[a..e], n, p.closed, cell, bound);
+    let m = smooth(&mut pts[a..e], n, p.closed, cell);
     put_row(
         rows,
         k,
@@ -172,8 +165,8 @@ pub fn smooth_all(rows: &mut [u32], pts: &mut [f64], m: usize, cell: f64)
     requires { Laid m rows.old pts.old }
     ensures { SmoothedAll m cell rows.old pts.old rows.new pts.new }
 {
-    let bound = numbers::bound::bound_of(cell);
+    let bound = Bound::of(cell);
     for k in 0..m {
-        smooth_row(rows, pts, k, cell, bound);
+        smooth_row(rows, pts, k, bound);
     }
 }

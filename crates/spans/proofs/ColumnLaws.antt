@@ -1,14 +1,15 @@
 -- The columns of a span about a point of a column lie in the span about the column's edges of a half-width as great or greater, and have those of one of a half-width
 -- as small or smaller. So for all columns with room, from one to the next. Assumes nothing.
+use Rattle.std.specs.Prelude.{None, Some, Option, IfSome}
 use mathlib.Core.Path.{◌≡◌, refl, sym, subst}
-use mathlib.Core.Bool.{true, false, ◌&&◌}
+use mathlib.Core.Bool.{true, false}
 use Prim.Native.Nat.{ℕ, ◌+◌, ◌-◌, ◌≤◌, ◌<◌, min, max}
 use native.Mathlib.Omega.{arith}
-use borrow.Author.Tests.{eqb-true, eqb-false, leb-true}
-use lib.Dec.{eqb, leb}
+use borrow.Author.Tests.{eqb-true, eqb-false}
+use lib.Dec.{eqb}
 use lib.IntN.{pos}
 use lib.Ieee.{Float, fin, binary64, of_bits, add, sub, lt, le, is_nan}
-use Rattle.loops.proofs.Cases.{by_cases, by_test, both}
+use Rattle.loops.proofs.Cases.{by_cases, by_test}
 use Rattle.floats.proofs.OrderLaws.{le_le, le_numbers, le_not_lt, not_lt_le, le_lt}
 use Rattle.floats.proofs.AddMono.{add_mono, add_mono_right, sub_mono, sub_anti}
 use Rattle.numbers.specs.Order.{is_finite}
@@ -17,10 +18,8 @@ use Rattle.numbers.specs.Root.{root_of}
 use Rattle.numbers.proofs.RootMono.{root_mono, root_defined}
 use Rattle.geom.specs.Vec.{f0}
 use Rattle.raster.specs.Grid.{Sides}
-use Rattle.raster.specs.Disk.{cell_at, first_from, cols_of}
+use Rattle.raster.specs.Disk.{Span, cell_at, first_from, cols_of}
 use Rattle.raster.specs.declared.grid.Grid.{Grid}
-use Rattle.raster.specs.declared.disk.Span.{Span}
-use Rattle.raster.specs.declared.disk.Span.TheVariants.{Empty, Cols}
 use Rattle.raster.proofs.RowLaws.{InRow, first-number, cols_in}
 use Rattle.spans.specs.Spans.{LiesIn, Covers}
 use Rattle.spans.specs.Ends.{below_of, beyond_of, Tame, span_of, most_of, least_of, about_of, Short, Wider, Narrower, Most, Least, Outer, Inner}
@@ -31,19 +30,19 @@ use Rattle.spans.proofs.EdgeLaws.{tame_size}
 -- ---- spans in one another
 
 lies_within : (s i a b : ℕ) (p q : Span) → Within p q → LiesIn s i a b q → LiesIn s i a b p
-lies_within s i a b Empty q w h = tt
-lies_within s i a b (Cols k l) Empty w h = absurd w
-lies_within s i a b (Cols k l) (Cols m n) w h = let u = w.0 in let v = w.1 in let x = h.0 in let y = h.1 in (omega arith, omega arith)
+lies_within s i a b None q w h = tt
+lies_within s i a b (Some (k, l)) None w h = absurd w
+lies_within s i a b (Some (k, l)) (Some (m, n)) w h = let u = w.0 in let v = w.1 in let x = h.0 in let y = h.1 in (omega arith, omega arith)
 
 covers_within : (s i a b : ℕ) (p q : Span) → Within p q → Covers s i a b p → Covers s i a b q
-covers_within s i a b Empty Empty w h = h
-covers_within s i a b Empty (Cols m n) w h = λ l. absurd (let z : ⊥ = omega (arith, h) in z)
-covers_within s i a b (Cols k l) Empty w h = absurd w
-covers_within s i a b (Cols k l) (Cols m n) w h = λ z. let u = w.0 in let v = w.1 in let t = h z in let x = t.0 in let y = t.1 in (omega arith, omega arith)
+covers_within s i a b None None w h = h
+covers_within s i a b None (Some (m, n)) w h = λ l. absurd (let z : ⊥ = omega (arith, h) in z)
+covers_within s i a b (Some (k, l)) None w h = absurd w
+covers_within s i a b (Some (k, l)) (Some (m, n)) w h = λ z. let u = w.0 in let v = w.1 in let t = h z in let x = t.0 in let y = t.1 in (omega arith, omega arith)
 
 covers_none : (s i : ℕ) (p : Span) → Covers s i 1 0 p
-covers_none s i Empty = omega arith
-covers_none s i (Cols k l) = λ z. absurd (let y : ⊥ = omega arith in y)
+covers_none s i None = omega arith
+covers_none s i (Some (k, l)) = λ z. absurd (let y : ⊥ = omega arith in y)
 
 span_mono : (g : Grid) → Tame g → (x0 x1 y0 y1 : Float) → le x0 y0 ≡ true → le y1 x1 ≡ true → Within (span_of g y0 y1) (span_of g x0 x1)
 unfolding span_of
@@ -93,7 +92,7 @@ module _ (g : Grid) (t : Tame g) (i : ℕ) (I : 0 < i) (N : i < g.nx) (x : Float
     about_most : (h2 k : Float) → le k h2 ≡ true → Within (about_of g x k) (most_of g (root_of h2) i)
     unfolding about_of most_of
     about_most h2 k l =
-        by_test (λ (p : Span). Within p (most_of g (root_of h2) i)) (lt k f0) Empty (span_of g (sub binary64 x (root_of k)) (add binary64 x (root_of k))) (λ e. tt)
+        by_test (λ (p : Span). Within p (most_of g (root_of h2) i)) (lt k f0) None (span_of g (sub binary64 x (root_of k)) (add binary64 x (root_of k))) (λ e. tt)
         (λ e.
         let r = at-root k h2 (not_lt_le f0 k zero_number (le_numbers k h2 l).0 e) l in
         span_mono g t _ _ _ _ (left_out low x high (root_of k) (root_of h2) L X R r.0 r.1 r.2 u) (right-out low x high (root_of k) (root_of h2) L X R r.0 r.1 r.2 v))
@@ -115,7 +114,7 @@ outer_of g s h2 h b e m = record {
 }
 
 -- where the height is below 0 there is no column
-pub outer_below : (g : Grid) (s : ℕ) (h2 : Float) → lt h2 f0 ≡ true → Outer g s h2 (record { known = true; first = 1; last = 0 })
+pub outer_below : (g : Grid) (s : ℕ) (h2 : Float) → lt h2 f0 ≡ true → Outer g s h2 (record { first = 1; last = 0 })
 unfolding about_of
 outer_below g s h2 e = record { at = λ t S i x k l r u v d. rw (le_lt k h2 f0 d e) tt }
 
@@ -126,14 +125,19 @@ inner_of g s h2 h b e z m = record {
       (m.at i l (omega arith));
 }
 
-pub inner-none : (g : Grid) (s : ℕ) (h2 : Float) → Inner g s h2 (record { known = true; first = 1; last = 0 })
+pub inner-none : (g : Grid) (s : ℕ) (h2 : Float) → Inner g s h2 (record { first = 1; last = 0 })
 inner-none g s h2 = record { at = λ t S i x k l r u v d. covers_none s i (about_of g x k) }
+
+-- what holds of a value, if there is one, shows another thing of it
+pub if_some : {A : Type 0} {P Q : A → Type 0} (o : Option A) → ((x : A) → P x → Q x) → IfSome o P → IfSome o Q
+if_some None f h = tt
+if_some (Some x) f h = f x h
 
 -- ---- from column to column
 
 short_in_lem : (nx : ℕ) (p : Span) → nx ≤ 4096 → InRow nx p → Short p
-short_in_lem nx Empty n h = tt
-short_in_lem nx (Cols k l) n h = let u = h.0 in let v = h.1 in (omega arith, omega arith)
+short_in_lem nx None n h = tt
+short_in_lem nx (Some (k, l)) n h = let u = h.0 in let v = h.1 in (omega arith, omega arith)
 
 pub short-is : (g : Grid) (x0 x1 : Float) (p : Span) → p ≡ span_of g x0 x1 → Sides g → Short p
 unfolding span_of
@@ -143,29 +147,25 @@ short-is g x0 x1 p e s =
     subst Short (sym e)
     (short_in_lem g.nx (cols_of (first_from (cell_at x0 o c)) (floor_of (cell_at x1 o c)) g.nx) s.columns (cols_in (first_from (cell_at x0 o c)) (floor_of (cell_at x1 o c)) g.nx s.wide s.columns (first-number (cell_at x0 o c))))
 
-pub wider-none : (s i : ℕ) (p : Span) (b : Bounds) → p ≡ Empty → b.known ≡ true → Wider s i p b b
-wider-none s i p b e k = record { known = k; first = omega arith; last = omega arith; has = subst (LiesIn s i b.first b.last) (sym e) tt }
+pub wider-none : (s i : ℕ) (p : Span) (b : Bounds) → p ≡ None → Wider s i p b b
+wider-none s i p b e = record { first = omega arith; last = omega arith; has = subst (LiesIn s i b.first b.last) (sym e) tt }
 
-module _ (s i : ℕ) (p : Span) (b : Bounds) (k l : ℕ) (e : p ≡ Cols k l) (f m : ℕ) (F : f ≡ k + s - i) (M : m ≡ l + s - i) where
-  pub wider-is : (d : Bounds) → d.first ≡ min f b.first → d.last ≡ max b.last m → b.known && leb i (k + s) ≡ true → Wider s i p b d
-  wider-is d x y t =
-      let u = both b.known (leb i (k + s)) t in
-      let v = leb-true i (k + s) u.1 in
-      record { known = u.0; first = omega arith; last = omega arith; has = subst (LiesIn s i d.first d.last) (sym e) (omega arith, omega arith) }
+module _ (s i : ℕ) (p : Span) (b : Bounds) (k l : ℕ) (e : p ≡ Some (k, l)) (f m : ℕ) (F : f ≡ k + s - i) (M : m ≡ l + s - i) where
+  pub wider-is : (d : Bounds) → d.first ≡ min f b.first → d.last ≡ max b.last m → i ≤ k + s → Wider s i p b d
+  wider-is d x y v =
+      record { first = omega arith; last = omega arith; has = subst (LiesIn s i d.first d.last) (sym e) (omega arith, omega arith) }
 
-  pub narrower_is : (d : Bounds) → d.first ≡ max b.first f → d.last ≡ min m b.last → b.known && leb i (l + s) ≡ true → Narrower s i p b d
-  narrower_is d x y t =
-      let u = both b.known (leb i (l + s)) t in
-      let v = leb-true i (l + s) u.1 in
-      record { known = u.0; first = omega arith; last = omega arith; in_it = subst (Covers s i d.first d.last) (sym e) (λ z. (omega arith, omega arith)) }
+  pub narrower_is : (d : Bounds) → d.first ≡ max b.first f → d.last ≡ min m b.last → i ≤ l + s → Narrower s i p b d
+  narrower_is d x y v =
+      record { first = omega arith; last = omega arith; in_it = subst (Covers s i d.first d.last) (sym e) (λ z. (omega arith, omega arith)) }
 
 lies-wider : (s i a b c d : ℕ) (p : Span) → c ≤ a → b ≤ d → LiesIn s i a b p → LiesIn s i c d p
-lies-wider s i a b c d Empty u v h = tt
-lies-wider s i a b c d (Cols k l) u v h = let x = h.0 in let y = h.1 in (omega arith, omega arith)
+lies-wider s i a b c d None u v h = tt
+lies-wider s i a b c d (Some (k, l)) u v h = let x = h.0 in let y = h.1 in (omega arith, omega arith)
 
 covers_narrower : (s i a b c d : ℕ) (p : Span) → a ≤ c → d ≤ b → Covers s i a b p → Covers s i c d p
-covers_narrower s i a b c d Empty u v h = omega (arith, h)
-covers_narrower s i a b c d (Cols k l) u v h = λ z. let t = h (omega arith) in let x = t.0 in let y = t.1 in (omega arith, omega arith)
+covers_narrower s i a b c d None u v h = omega (arith, h)
+covers_narrower s i a b c d (Some (k, l)) u v h = λ z. let t = h (omega arith) in let x = t.0 in let y = t.1 in (omega arith, omega arith)
 
 module _ (g : Grid) (s : ℕ) (h : Float) where
   pub most-none : (b : Bounds) → Most g s h s b

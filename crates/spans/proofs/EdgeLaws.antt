@@ -1,4 +1,5 @@
 -- A point of a cell lies between the cell's edges: else the side's arithmetic, which keeps the order, would put it into another cell. Assumes nothing.
+use Rattle.std.specs.Prelude.{None, Option, Some}
 use mathlib.Core.Path.{◌≡◌, refl, sym, subst}
 use mathlib.Core.Bool.{true, false, not, ◌&&◌, ◌||◌}
 use Prim.Native.Nat.{ℕ, ◌+◌, ◌^◌, ◌≤◌, ◌<◌}
@@ -15,29 +16,27 @@ use Rattle.geom.specs.Vec.{f0}
 use Rattle.geom.specs.declared.vec2.Vec2.{Vec2}
 use Rattle.raster.specs.Grid.{Sides, column_at, row_at, astray, on_grid, cell_of}
 use Rattle.raster.specs.declared.grid.Grid.{Grid}
-use Rattle.raster.specs.declared.grid.Found.{Found}
-use Rattle.raster.specs.declared.grid.Found.TheVariants.{Nothing, At}
 use Rattle.spans.specs.Spans.{Placed}
 use Rattle.spans.specs.Ends.{below_of, beyond_of, Edged, AllEdged, Tame}
 use Rattle.spans.proofs.MonoLaws.{Size, finite_number, share_mono}
 
 -- ---- a cell that was found
 
-abbrev Says : Grid → Vec2 → Found → Type 0
-Says g p Nothing = Unit
-Says g p (At i j) = (is_finite (column_at g p) ≡ true) × (is_finite (row_at g p) ≡ true) × (i ≡ to_unsigned 64 (column_at g p)) × (j ≡ to_unsigned 64 (row_at g p))
+abbrev Says : Grid → Vec2 → Option (ℕ × ℕ) → Type 0
+Says g p None = Unit
+Says g p (Some (i, j)) = (is_finite (column_at g p) ≡ true) × (is_finite (row_at g p) ≡ true) × (i ≡ to_unsigned 64 (column_at g p)) × (j ≡ to_unsigned 64 (row_at g p))
 
 says : (g : Grid) (p : Vec2) → Says g p (cell_of g p)
 unfolding cell_of on_grid
 says g p =
     let x = column_at g p in
     let y = row_at g p in
-    by_test (Says g p) (astray x y) Nothing (on_grid g (to_unsigned 64 x) (to_unsigned 64 y)) (λ t. tt)
+    by_test (Says g p) (astray x y) None (on_grid g (to_unsigned 64 x) (to_unsigned 64 y)) (λ t. tt)
     (λ t.
     let a = neither (lt x f0) (lt y f0 || (not (is_finite x) || not (is_finite y))) t in
     let b = neither (lt y f0) (not (is_finite x) || not (is_finite y)) a.1 in
     let c = neither (not (is_finite x)) (not (is_finite y)) b.1 in
-    by_test (Says g p) (ltb (to_unsigned 64 x) g.nx && ltb (to_unsigned 64 y) g.ny) (At (to_unsigned 64 x) (to_unsigned 64 y)) Nothing
+    by_test (Says g p) (ltb (to_unsigned 64 x) g.nx && ltb (to_unsigned 64 y) g.ny) (Some (to_unsigned 64 x, to_unsigned 64 y)) None
     (λ u. (not-false (is_finite x) c.0, not-false (is_finite y) c.1, refl, refl)) (λ u. tt))
 
 -- a place that is a number was given a number
@@ -85,7 +84,7 @@ module _ (g : Grid) (sides : Sides g) (t : Tame g) (s : ℕ) (S : 0 < s) (p : Ve
   pub row_edged : Edged g.origin.y g.cell j
   row_edged = let a = h.below in let b = h.above in t.rows.at j (omega arith) (omega arith)
 
-  found : Says g p (At i j)
+  found : Says g p (Some (i, j))
   found = subst (Says g p) h.at (says g p)
 
   pub column-between : Between g.origin.x g.cell i p.x

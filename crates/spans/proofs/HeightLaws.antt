@@ -1,5 +1,5 @@
 -- The squares of the numbers between two, and so the squared half-widths of a disk's row for all centres between two. Assumes nothing.
-use mathlib.Core.Path.{◌≡◌, refl, sym, ap, ◌∙◌, subst}
+use mathlib.Core.Path.{◌≡◌, refl, sym, ◌∙◌, subst}
 use mathlib.Core.Bool.{true, false, cond}
 use Prim.Native.Nat.{ℕ, ◌+◌, ◌-◌, ◌≤◌}
 use native.Mathlib.Omega.{arith}
@@ -7,7 +7,7 @@ use borrow.Author.Tests.{eqb-true, eqb-false}
 use lib.Dec.{eqb}
 use lib.IntN.{pos}
 use lib.Ieee.{Float, fin, binary64, of_bits, neg, sub, mul, lt, le, is_nan}
-use Rattle.loops.proofs.Cases.{by_cases, by_test, both, never}
+use Rattle.loops.proofs.Cases.{by_cases, by_test, never}
 use Rattle.floats.proofs.OrderLaws.{le_le, le_refl, le_numbers, lt_to_le, not_lt_le, not_le_lt}
 use Rattle.floats.proofs.SignLaws.{zero_under}
 use Rattle.floats.proofs.SwapLaws.{mul_swap}
@@ -87,7 +87,7 @@ module _ (a b : Float) (p : is_finite a ≡ true) (q : is_finite b ≡ true) whe
 
 pub high_is : (r2 y lo hi big small : Float) → is_finite r2 ≡ true → is_finite lo ≡ true → is_finite hi ≡ true → is_finite y ≡ true
     → Big (sub binary64 y hi) (sub binary64 y lo) big → Small (sub binary64 y hi) (sub binary64 y lo) small
-    → High r2 y lo hi (record { known = true; least = sub binary64 r2 big; most = sub binary64 r2 small })
+    → High r2 y lo hi (record { least = sub binary64 r2 big; most = sub binary64 r2 small })
 unfolding height_of
 high_is r2 y lo hi big small R L H Y B S = record {
   least-number = sub_some r2 big R B.number;
@@ -162,12 +162,11 @@ module _ (g : Grid) (r2 : Float) (s q : ℕ) where
       }
 
   pub high-turn : (e : ℕ) (h k j : Heights) (y lo hi : Float) → j ≡ joined_of h k → y ≡ row_y g (e + q - s) → lo ≡ below_of g.origin.y g.cell e → hi ≡ beyond_of g.origin.y g.cell e
-      → (k.known ≡ true → High r2 y lo hi k) → (h.known ≡ true → HighTo g r2 s q e h) → j.known ≡ true → HighTo g r2 s q (e + 1) j
+      → High r2 y lo hi k → HighTo g r2 s q e h → HighTo g r2 s q (e + 1) j
   unfolding joined_of
-  high-turn e h k j y lo hi d a b c K H t =
-      let u = both h.known k.known (sym (ap (λ (z : Heights). z.known) d) ∙ t) in
-      let x : High r2 (row_y g (e + q - s)) (below_of g.origin.y g.cell e) (beyond_of g.origin.y g.cell e) k = rw (← a, ← b, ← c) (K u.1) in
-      subst (HighTo g r2 s q (e + 1)) (sym d) (high_more e h k (H u.0) x)
+  high-turn e h k j y lo hi d a b c K H =
+      let x : High r2 (row_y g (e + q - s)) (below_of g.origin.y g.cell e) (beyond_of g.origin.y g.cell e) k = rw (← a, ← b, ← c) K in
+      subst (HighTo g r2 s q (e + 1)) (sym d) (high_more e h k H x)
 
   pub high_end : (e k : ℕ) (h : Heights) → e ≤ k → HighTo g r2 s q k h → HighTo g r2 s q e h
   high_end e k h l H = record { least-number = H.least-number; most-number = H.most-number; at = λ j cy u v x y. H.at j cy u (omega arith) x y }

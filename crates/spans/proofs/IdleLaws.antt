@@ -1,4 +1,5 @@
 -- A row of a crescent that has no stock changes nothing; the columns to look at are those that the disk may have and the disk before may lack. Assumes nothing.
+use Rattle.std.specs.Prelude.{None, Some, Option}
 use mathlib.Core.Path.{◌≡◌, refl, sym, ap, ◌∙◌, subst}
 use mathlib.Core.Bool.{true, false, not, ◌&&◌, ◌||◌}
 use mathlib.Core.List.{List}
@@ -13,31 +14,27 @@ use Rattle.loops.proofs.Cases.{by_cases, by_test, both, neither, never}
 use Rattle.loops.proofs.LoopLaws.{loop_keeps, any-each}
 use Rattle.geom.specs.declared.vec2.Vec2.{Vec2}
 use Rattle.raster.specs.Grid.{Sides}
-use Rattle.raster.specs.Disk.{disk_row, crescent_row, left_of, right_of, less, two}
+use Rattle.raster.specs.Disk.{Span, disk_row, crescent_row, left_of, right_of, less, two}
 use Rattle.raster.specs.Sweep.{over_span, crescent_at}
 use Rattle.raster.specs.Log.{Stock, st, clear_cell, clear_after}
 use Rattle.raster.specs.declared.grid.Grid.{Grid}
 use Rattle.raster.specs.declared.disk.Crescent.{Crescent}
-use Rattle.raster.specs.declared.disk.Span.{Span}
-use Rattle.raster.specs.declared.disk.Span.TheVariants.{Empty, Cols}
 use Rattle.raster.proofs.RowLaws.{InRow, disk_in}
 use Rattle.spans.specs.Spans.{word, Placed, LiesIn, Covers, Spanning}
 use Rattle.spans.specs.Ends.{is_stock, LiesAt, CoversAt, Bare, Idle, PlacedAt}
 use Rattle.spans.specs.declared.runs.Limits.{Limits}
 use Rattle.spans.specs.declared.crescent.Spot.{Spot}
-use Rattle.spans.specs.declared.crescent.Place.{Place}
-use Rattle.spans.specs.declared.crescent.Place.TheVariants.{On}
 
 -- ---- spans without stock
 
 abbrev In : ℕ → Span → Type 0
-In k Empty = ⊥
-In k (Cols a b) = (a ≤ k) × (k ≤ b)
+In k None = ⊥
+In k (Some (a, b)) = (a ≤ k) × (k ≤ b)
 
 -- no cell of a span of the row from base on is stock
 abbrev Quiet : List ℕ → ℕ → Span → Type 0
-Quiet m base Empty = Unit
-Quiet m base (Cols a b) = (k : ℕ) → a ≤ k → k ≤ b → is_stock m (base + k) ≡ false
+Quiet m base None = Unit
+Quiet m base (Some (a, b)) = (k : ℕ) → a ≤ k → k ≤ b → is_stock m (base + k) ≡ false
 
 cell-idle : (k : ℕ) (m log : List ℕ) (n : ℕ) → is_stock m k ≡ false → clear_cell k (st m log n) ≡ st m log n
 unfolding clear_cell
@@ -45,8 +42,8 @@ cell-idle k m log n h = rw h
 
 span_idle : (m log : List ℕ) (n base : ℕ) (p : Span) → Quiet m base p → over_span clear_cell base p (st m log n) ≡ st m log n
 unfolding over_span
-span_idle m log n base Empty h = refl
-span_idle m log n base (Cols a b) h =
+span_idle m log n base None h = refl
+span_idle m log n base (Some (a, b)) h =
     loop_keeps clear_cell (base + a) (λ (s : Stock). s ≡ st m log n) (base + b + 1)
     (λ i s l u e.
     ap (clear_cell i) e ∙ cell-idle i m log n (subst (λ (k : ℕ). is_stock m k ≡ false) (let z : base + (i - base) ≡ i = omega arith in z) (h (i - base) (omega arith) (omega arith))))
@@ -58,15 +55,15 @@ BothQuiet m base c = Quiet m base c.left × Quiet m base c.right
 -- of two spans: where no column of the first that is none of the second is stock
 quiet_less : (m : List ℕ) (base : ℕ) (s q : Span) → ((k : ℕ) → In k s → (In k q → ⊥) → is_stock m (base + k) ≡ false) → BothQuiet m base (less s q)
 unfolding less left_of right_of
-quiet_less m base Empty q h = (tt, tt)
-quiet_less m base (Cols i0 i1) Empty h = (λ k a b. h k (a, b) (λ z. z), tt)
-quiet_less m base (Cols i0 i1) (Cols p0 p1) h =
-    by_test (BothQuiet m base) (leb p0 i1 && leb i0 p1) (two (left_of i0 p0) (right_of p1 i1)) (two (Cols i0 i1) Empty)
+quiet_less m base None q h = (tt, tt)
+quiet_less m base (Some (i0, i1)) None h = (λ k a b. h k (a, b) (λ z. z), tt)
+quiet_less m base (Some (i0, i1)) (Some (p0, p1)) h =
+    by_test (BothQuiet m base) (leb p0 i1 && leb i0 p1) (two (left_of i0 p0) (right_of p1 i1)) (two (Some (i0, i1)) None)
     (λ t.
     let u : p0 ≤ i1 = leb-true p0 i1 (both (leb p0 i1) (leb i0 p1) t).0 in
     let v : i0 ≤ p1 = leb-true i0 p1 (both (leb p0 i1) (leb i0 p1) t).1 in (
-      by_test (Quiet m base) (ltb i0 p0) (Cols i0 (p0 - 1)) Empty (λ w k a b. let z = ltb-true i0 p0 w in h k (a, omega arith) (λ d. let e = d.0 in let y : ⊥ = omega arith in y)) (λ w. tt),
-      by_test (Quiet m base) (ltb p1 i1) (Cols (p1 + 1) i1) Empty (λ w k a b. h k (omega arith, b) (λ d. let e = d.1 in let y : ⊥ = omega arith in y)) (λ w. tt),
+      by_test (Quiet m base) (ltb i0 p0) (Some (i0, p0 - 1)) None (λ w k a b. let z = ltb-true i0 p0 w in h k (a, omega arith) (λ d. let e = d.0 in let y : ⊥ = omega arith in y)) (λ w. tt),
+      by_test (Quiet m base) (ltb p1 i1) (Some (p1 + 1, i1)) None (λ w k a b. h k (omega arith, b) (λ d. let e = d.1 in let y : ⊥ = omega arith in y)) (λ w. tt),
     ))
     (λ t. (λ k a b. h k (a, b) (λ d. let u = d.0 in let v = d.1 in apart t (omega arith) (omega arith)), tt))
   where
@@ -79,16 +76,16 @@ quiet_less m base (Cols i0 i1) (Cols p0 p1) h =
 -- ---- the columns that are looked at
 
 lies_in : (o : Limits) (s : Span) (k : ℕ) → LiesAt o s → In k s → (o.first ≤ k) × (k ≤ o.last)
-lies_in o Empty k h i = absurd i
-lies_in o (Cols a b) k h i = let u = h.0 in let v = h.1 in let a = i.0 in let b = i.1 in (omega arith, omega arith)
+lies_in o None k h i = absurd i
+lies_in o (Some (a, b)) k h i = let u = h.0 in let v = h.1 in let a = i.0 in let b = i.1 in (omega arith, omega arith)
 
 covers_in : (n : Limits) (q : Span) (k : ℕ) → CoversAt n q → n.first ≤ k → k ≤ n.last → In k q
-covers_in n Empty k h a b = let z : ⊥ = omega (arith, h) in z
-covers_in n (Cols p0 p1) k h a b = let u = h (omega arith) in let v = u.0 in let w = u.1 in (omega arith, omega arith)
+covers_in n None k h a b = let z : ⊥ = omega (arith, h) in z
+covers_in n (Some (p0, p1)) k h a b = let u = h (omega arith) in let v = u.0 in let w = u.1 in (omega arith, omega arith)
 
 row_in : (nx : ℕ) (s : Span) (k : ℕ) → InRow nx s → In k s → k < nx
-row_in nx Empty k h i = absurd i
-row_in nx (Cols a b) k h i = let u = h.1 in let v = i.1 in omega arith
+row_in nx None k h i = absurd i
+row_in nx (Some (a, b)) k h i = let u = h.1 in let v = i.1 in omega arith
 
 pub idle-is : (g : Grid) (prev c : Vec2) (r : Float) (y base : ℕ) (m : List ℕ) (o n : Limits) → Sides g → base ≡ y * g.nx → LiesAt o (disk_row g c r y) → CoversAt n (disk_row g prev r y)
     → Bare m base g.nx o n → Idle g prev c r y m
@@ -120,12 +117,12 @@ bare-is m base nx o n e a k b f p₁ p₂ p₃ p₄ p₅ h l = record {
 -- ---- for the lookups
 
 outer_told : (s i w : ℕ) (l : Limits) → l.first + s ≡ i + w / 65536 → l.last + s ≡ i + w % 65536 → (p : Span) → LiesIn s i (w / 65536) (w % 65536) p → LiesAt l p
-outer_told s i w l a b Empty h = tt
-outer_told s i w l a b (Cols k m) h = let u = h.0 in let v = h.1 in (omega arith, omega arith)
+outer_told s i w l a b None h = tt
+outer_told s i w l a b (Some (k, m)) h = let u = h.0 in let v = h.1 in (omega arith, omega arith)
 
 inner-told : (s i w : ℕ) (l : Limits) → l.first + s ≡ i + w / 65536 → l.last + s ≡ i + w % 65536 → (p : Span) → Covers s i (w / 65536) (w % 65536) p → CoversAt l p
-inner-told s i w l a b Empty h = omega (arith, h)
-inner-told s i w l a b (Cols k m) h = λ z. let u = h (omega arith) in let v = u.0 in let w = u.1 in (omega arith, omega arith)
+inner-told s i w l a b None h = omega (arith, h)
+inner-told s i w l a b (Some (k, m)) h = λ z. let u = h (omega arith) in let v = u.0 in let w = u.1 in (omega arith, omega arith)
 
 module _ (g : Grid) (r : Float) (t : List Float) (s : ℕ) (table : Spanning g r t) (first : word t 0 ≡ s + 1) where
   pub outer-read : (k : ℕ) → k ≤ 2 * s → (2 * k + 1 < length t) × T (not (is_nan (get_or t (2 * k + 1) nan)))
@@ -154,12 +151,12 @@ in_reach k j s h =
 
 -- all columns, and none
 all_in : (nx : ℕ) (p : Span) → InRow nx p → LiesAt (record { first = 0; last = nx }) p
-all_in nx Empty h = tt
-all_in nx (Cols k m) h = let u = h.1 in (omega arith, omega arith)
+all_in nx None h = tt
+all_in nx (Some (k, m)) h = let u = h.1 in (omega arith, omega arith)
 
 none_of : (p : Span) → CoversAt (record { first = 1; last = 0 }) p
-none_of Empty = omega arith
-none_of (Cols k m) = λ z. let y : ⊥ = omega arith in absurd y
+none_of None = omega arith
+none_of (Some (k, m)) = λ z. let y : ⊥ = omega arith in absurd y
 
 pub outer-all : (g : Grid) (p : Vec2) (r : Float) (y : ℕ) → Sides g → LiesAt (record { first = 0; last = g.nx }) (disk_row g p r y)
 outer-all g p r y s = all_in g.nx (disk_row g p r y) (disk_in g p r y s)
@@ -169,7 +166,7 @@ inner-none g p r y = none_of (disk_row g p r y)
 
 -- ---- the two points with their cells
 
-pub placed_on : (g : Grid) (s : ℕ) (p : Vec2) (f : Place) (o : Spot) → PlacedAt g s p f → f ≡ On o → (o.p ≡ p) × Placed g s o.p o.i o.j
+pub placed_on : (g : Grid) (s : ℕ) (p : Vec2) (f : Option Spot) (o : Spot) → PlacedAt g s p f → f ≡ Some o → (o.p ≡ p) × Placed g s o.p o.i o.j
 placed_on g s p f o h e = subst (PlacedAt g s p) e h
 
 pub after_is : (g : Grid) (a b prev c : Vec2) (r : Float) (s t : Stock) → a ≡ prev → b ≡ c → t ≡ clear_after g a b r s → t ≡ clear_after g prev c r s

@@ -1,4 +1,5 @@
 -- The arithmetic of a chord keeps the order, step by step: differences, cell numbers, whole numbers from them on, and the columns between those. Assumes nothing.
+use Rattle.std.specs.Prelude.{None, Some}
 use mathlib.Core.Path.{◌≡◌, refl, ap, ◌∙◌}
 use mathlib.Core.Bool.{Bool, true, false, cond, ◌||◌}
 use Prim.Native.Nat.{ℕ, zero, suc, ◌+◌, ◌-◌, ◌*◌, ◌/◌, ◌≤◌, ◌<◌, min}
@@ -26,9 +27,7 @@ use Rattle.numbers.specs.Cast.{float}
 use Rattle.numbers.specs.Small.{half}
 use Rattle.numbers.proofs.MaxLaws.{max_ge_left, max_ge_right}
 use Rattle.geom.specs.Vec.{f0}
-use Rattle.raster.specs.Disk.{cell_at, first_from, cols_of}
-use Rattle.raster.specs.declared.disk.Span.{Span}
-use Rattle.raster.specs.declared.disk.Span.TheVariants.{Empty, Cols}
+use Rattle.raster.specs.Disk.{Span, cell_at, first_from, cols_of}
 
 -- ---- finite numbers
 
@@ -230,9 +229,9 @@ first_mono x y h = max_mono (ceil_of x) (ceil_of y) (ceil_mono x y h)
 
 -- the columns of the first span are columns of the second
 abbrev pub Within : Span → Span → Type 0
-Within Empty q = Unit
-Within (Cols a b) Empty = ⊥
-Within (Cols a b) (Cols c d) = (c ≤ a) × (b ≤ d)
+Within None q = Unit
+Within (Some (a, b)) None = ⊥
+Within (Some (a, b)) (Some (c, d)) = (c ≤ a) × (b ≤ d)
 
 float-number : (n : ℕ) → is_nan (float n) ≡ false
 unfolding of_int
@@ -241,7 +240,7 @@ float-number n = round_number binary64 false n 1
 pub cols_mono : (i0 i1 k0 k1 : Float) (nx : ℕ) → le i0 k0 ≡ true → le k1 i1 ≡ true → Within (cols_of k0 k1 nx) (cols_of i0 i1 nx)
 unfolding cols_of
 cols_mono i0 i1 k0 k1 nx h k =
-    by_test (λ (p : Span). Within p (cols_of i0 i1 nx)) (lt k1 f0 || (lt k1 k0 || le (float nx) k0)) Empty (Cols (to_unsigned 64 k0) (min (to_unsigned 64 k1) (nx - 1))) (λ t. tt)
+    by_test (λ (p : Span). Within p (cols_of i0 i1 nx)) (lt k1 f0 || (lt k1 k0 || le (float nx) k0)) None (Some (to_unsigned 64 k0, min (to_unsigned 64 k1) (nx - 1))) (λ t. tt)
     (λ t.
     let a = neither (lt k1 f0) (lt k1 k0 || le (float nx) k0) t in
     let b = neither (lt k1 k0) (le (float nx) k0) a.1 in

@@ -1,6 +1,6 @@
 -- The words of a row from its heights and columns, and the table from its rows. Assumes nothing.
 use mathlib.Core.Path.{◌≡◌, refl, sym, ap, ◌∙◌, subst}
-use mathlib.Core.Bool.{Bool, true, false, not, ◌&&◌}
+use mathlib.Core.Bool.{true, not}
 use mathlib.Core.List.{List}
 use Prim.Native.Nat.{ℕ, ◌+◌, ◌-◌, ◌*◌, ◌/◌, ◌%◌, ◌^◌, ◌≤◌, ◌<◌}
 use native.Mathlib.Omega.{arith}
@@ -9,7 +9,7 @@ use lib.ListN.{length, get_or, set, length-set}
 use lib.Seq.{get_or-set_same, get_or-set_other}
 use lib.Dec.{T, eqb}
 use lib.Ieee.{Float, nan, binary64, of_bits, to_bits, mul, le, is_nan}
-use Rattle.loops.proofs.Cases.{by_cases, never}
+use Rattle.loops.proofs.Cases.{by_cases}
 use Rattle.numbers.proofs.BoundLaws.{bits_number, bits_back}
 use Rattle.geom.specs.declared.vec2.Vec2.{Vec2}
 use Rattle.raster.specs.Grid.{Sides}
@@ -65,13 +65,6 @@ module _ (g : Grid) (r : Float) (s q : ℕ) (sides : Sides g) (t : Tame g) (S : 
       let c = y.0 in
       let d = y.1 in
       record { outer = omega arith; inner = omega arith; told = record { outer = outer-word o x.1 p.outer w O; inner = inner-word n y.1 p.inner v N } }
-
-pub all_four : (a b c d : Bool) → a && (b && (c && d)) ≡ true → (a ≡ true) × (b ≡ true) × (c ≡ true) × (d ≡ true)
-all_four true true true true h = (refl, refl, refl, refl)
-all_four true true true false h = never h
-all_four true true false d h = never h
-all_four true false c d h = never h
-all_four false b c d h = never h
 
 -- ---- the rows of a table
 

@@ -1,6 +1,6 @@
 -- What the parts of the table and of its use promise one another: where the points of a cell lie, what half-widths the rows of a disk have, and which columns
 -- they give. The promises of `fill` and `clear_crescent` rest on Spans.antt alone. Definitions only.
-use Rattle.std.specs.Prelude.{ℕ, ◌+◌, ◌-◌, ◌≤◌, ◌<◌, ◌≡◌, Bool, true, false, cond, ◌&&◌, List, get_or, eqb, Float}
+use Rattle.std.specs.Prelude.{ℕ, ◌+◌, ◌-◌, ◌≤◌, ◌<◌, ◌≡◌, Bool, true, false, cond, List, get_or, eqb, Float, None, Option, Some}
 use Rattle.std.specs.Float.{binary64}
 use Rattle.std.specs.Float.Ieee.{of_bits, add, sub, mul, div, lt, le, is_nan}
 use Rattle.numbers.specs.Order.{max_of, min_of, is_finite}
@@ -9,19 +9,16 @@ use Rattle.numbers.specs.Root.{root_of}
 use Rattle.numbers.specs.Cast.{float}
 use Rattle.geom.specs.Vec.{f0}
 use Rattle.geom.specs.declared.vec2.Vec2.{Vec2}
-use Rattle.raster.specs.Disk.{cell_at, first_from, cols_of, row_y}
+use Rattle.raster.specs.Disk.{Span, cell_at, first_from, cols_of, row_y}
 use Rattle.raster.specs.Sweep.{crescent_at}
 use Rattle.raster.specs.Log.{st, clear_cell}
 use Rattle.raster.specs.declared.grid.Grid.{Grid}
-use Rattle.raster.specs.declared.disk.Span.{Span}
-use Rattle.raster.specs.declared.disk.Span.TheVariants.{Empty, Cols}
 use Rattle.spans.specs.Spans.{Placed, LiesIn, Covers, Told, Entry}
 use Rattle.spans.specs.declared.columns.Bounds.{Bounds}
 use Rattle.spans.specs.declared.heights.Heights.{Heights}
 use Rattle.spans.specs.declared.table.Pair.{Pair}
 use Rattle.spans.specs.declared.runs.Limits.{Limits}
-use Rattle.spans.specs.declared.crescent.Place.{Place}
-use Rattle.spans.specs.declared.crescent.Place.TheVariants.{Off, On}
+use Rattle.spans.specs.declared.crescent.Spot.{Spot}
 
 -- ---- the points of a cell
 
@@ -73,7 +70,7 @@ pub record High (r2 y lo hi : Float) (h : Heights) : Type 0 where
 
 -- of both of two
 unfoldable pub joined_of : Heights → Heights → Heights
-joined_of h k = record { known = h.known && k.known; least = min_of h.least k.least; most = max_of h.most k.most }
+joined_of h k = record { least = min_of h.least k.least; most = max_of h.most k.most }
 
 -- the heights of row q for centres in the rows from s on below e
 pub record HighTo (g : Grid) (r2 : Float) (s q e : ℕ) (h : Heights) : Type 0 where
@@ -97,22 +94,20 @@ least_of g h i = span_of g (sub binary64 (beyond_of g.origin.x g.cell i) h) (add
 
 -- the span of half-width √h2 about x
 unfoldable pub about_of : Grid → Float → Float → Span
-about_of g x h2 = cond (lt h2 f0) Empty (span_of g (sub binary64 x (root_of h2)) (add binary64 x (root_of h2)))
+about_of g x h2 = cond (lt h2 f0) None (span_of g (sub binary64 x (root_of h2)) (add binary64 x (root_of h2)))
 
 -- its columns fit on a grid
 abbrev pub Short : Span → Type 0
-Short Empty = Unit
-Short (Cols k l) = (k < 4096) × (l < 4096)
+Short None = Unit
+Short (Some (k, l)) = (k < 4096) × (l < 4096)
 
 -- b with one more span in it, or without what one more span has not
 pub record Wider (s i : ℕ) (p : Span) (b b' : Bounds) : Type 0 where
-  pub known : b.known ≡ true
   pub first : b'.first ≤ b.first
   pub last : b.last ≤ b'.last
   pub has : LiesIn s i b'.first b'.last p
 
 pub record Narrower (s i : ℕ) (p : Span) (b b' : Bounds) : Type 0 where
-  pub known : b.known ≡ true
   pub first : b.first ≤ b'.first
   pub last : b'.last ≤ b.last
   pub in_it : Covers s i b'.first b'.last p
@@ -151,12 +146,12 @@ is_stock m k = eqb (get_or m k 0) 1
 
 -- columns of the row, not counted from another
 abbrev pub LiesAt : Limits → Span → Type 0
-LiesAt l Empty = Unit
-LiesAt l (Cols k m) = (l.first ≤ k) × (m ≤ l.last)
+LiesAt l None = Unit
+LiesAt l (Some (k, m)) = (l.first ≤ k) × (m ≤ l.last)
 
 abbrev pub CoversAt : Limits → Span → Type 0
-CoversAt l Empty = l.last < l.first
-CoversAt l (Cols k m) = l.first ≤ l.last → (k ≤ l.first) × (l.last ≤ m)
+CoversAt l None = l.last < l.first
+CoversAt l (Some (k, m)) = l.first ≤ l.last → (k ≤ l.first) × (l.last ≤ m)
 
 -- no column of o that is none of n is stock
 pub record Bare (m : List ℕ) (base nx : ℕ) (o n : Limits) : Type 0 where
@@ -167,6 +162,6 @@ pub record Idle (g : Grid) (prev c : Vec2) (r : Float) (y : ℕ) (m : List ℕ) 
   pub at : (log : List ℕ) (n : ℕ) → crescent_at clear_cell g prev c r y (st m log n) ≡ st m log n
 
 -- p with its cell, where that has room
-abbrev pub PlacedAt : Grid → ℕ → Vec2 → Place → Type 0
-PlacedAt g s p Off = Unit
-PlacedAt g s p (On o) = (o.p ≡ p) × Placed g s o.p o.i o.j
+abbrev pub PlacedAt : Grid → ℕ → Vec2 → Option Spot → Type 0
+PlacedAt g s p None = Unit
+PlacedAt g s p (Some o) = (o.p ≡ p) × Placed g s o.p o.i o.j

@@ -1,15 +1,12 @@
 -- A table of the columns that a disk of one radius has in each row, wherever in its cell the centre lies: at most those from a first to a last, and at least
 -- those from another first to another last. Definitions only.
-use Rattle.std.specs.Prelude.{ℕ, ◌+◌, ◌*◌, ◌/◌, ◌%◌, ◌≤◌, ◌<◌, ◌≡◌, not, List, length, get_or, T, Float}
+use Rattle.std.specs.Prelude.{ℕ, ◌+◌, ◌*◌, ◌/◌, ◌%◌, ◌≤◌, ◌<◌, ◌≡◌, not, List, length, get_or, T, Float, None, Some}
 use Rattle.std.specs.Float.{nan, binary64}
 use Rattle.std.specs.Float.Ieee.{is_nan, to_bits}
 use Rattle.geom.specs.declared.vec2.Vec2.{Vec2}
 use Rattle.raster.specs.Grid.{cell_of}
-use Rattle.raster.specs.Disk.{disk_row}
+use Rattle.raster.specs.Disk.{Span, disk_row}
 use Rattle.raster.specs.declared.grid.Grid.{Grid}
-use Rattle.raster.specs.declared.grid.Found.TheVariants.{At}
-use Rattle.raster.specs.declared.disk.Span.{Span}
-use Rattle.raster.specs.declared.disk.Span.TheVariants.{Empty, Cols}
 
 -- entry k of a slice of floats as a whole number, by its bits
 abbrev pub word : List Float → ℕ → ℕ
@@ -17,7 +14,7 @@ word t k = to_bits binary64 (get_or t k nan)
 
 -- p lies in cell (i, j), and s cells more on each side of it are on the grid
 pub record Placed (g : Grid) (s : ℕ) (p : Vec2) (i j : ℕ) : Type 0 where
-  pub at : cell_of g p ≡ At i j
+  pub at : cell_of g p ≡ Some (i, j)
   pub left : s ≤ i
   pub right : i + s < g.nx
   pub below : s ≤ j
@@ -25,13 +22,13 @@ pub record Placed (g : Grid) (s : ℕ) (p : Vec2) (i j : ℕ) : Type 0 where
 
 -- a span lies in the columns a to b, both counted from column i - s on
 abbrev pub LiesIn : ℕ → ℕ → ℕ → ℕ → Span → Type 0
-LiesIn s i a b Empty = Unit
-LiesIn s i a b (Cols k l) = (i + a ≤ k + s) × (l + s ≤ i + b)
+LiesIn s i a b None = Unit
+LiesIn s i a b (Some (k, l)) = (i + a ≤ k + s) × (l + s ≤ i + b)
 
 -- a span has all of the columns a to b, if a ≤ b
 abbrev pub Covers : ℕ → ℕ → ℕ → ℕ → Span → Type 0
-Covers s i a b Empty = b < a
-Covers s i a b (Cols k l) = a ≤ b → (k + s ≤ i + a) × (i + b ≤ l + s)
+Covers s i a b None = b < a
+Covers s i a b (Some (k, l)) = a ≤ b → (k + s ≤ i + a) × (i + b ≤ l + s)
 
 -- In the row y = j + q - s the disk of radius r at a point of cell (i, j) has no other columns than those of the word w, and all of those of the word v. A word
 -- is a first column times 65536 and a last one.

@@ -9,11 +9,11 @@ ghost use Rattle.raster.specs.Log.{st, Ready, clear_cell, clear_after};
 ghost use Rattle.spans.specs.Spans.{word, Placed, Spanning};
 ghost use Rattle.spans.specs.Ends.{LiesAt, CoversAt, Idle, PlacedAt};
 
-use super::runs::{Limits, clear_row, is_bare};
+use super::runs::{Limits, is_bare};
 use geom::vec2::Vec2;
-use raster::disk::rows_of;
-use raster::grid::{Found, Grid, cell_of};
-use raster::log::clear_disk_after_logged;
+use raster::disk::{Rows, rows_of};
+use raster::grid::{Grid, cell_of};
+use raster::log::{clear_disk_after_logged, clear_row};
 
 // A point with its cell.
 #[derive(Clone, Copy)]
@@ -23,31 +23,22 @@ pub struct Spot {
     pub j: usize,
 }
 
-// A point whose cell has room on each side, or not.
-#[derive(Clone, Copy)]
-pub enum Place {
-    Off,
-    On(Spot),
-}
-
-fn spot_of(g: Grid, s: usize, p: Vec2) -> Place
+// A point with its cell, where that has room on each side.
+fn spot_of(g: Grid, s: usize, p: Vec2) -> Option<Spot>
     requires { Sides g }
     ensures { PlacedAt g s p result }
 {
-    let f = cell_of(g, p);
-    let Found::At(i, j) = f else {
-        return Place::Off;
-    };
+    let (i, j) = cell_of(g, p)?;
     if s <= i {
         if s <= j {
             if s < g.nx - i {
                 if s < g.ny - j {
-                    return Place::On(Spot { p, i, j });
+                    return Some(Spot { p, i, j });
                 }
             }
         }
     }
-    Place::Off
+    None
 }
 
 fn word_at(t: &[f64], k: usize) -> u64
@@ -165,9 +156,7 @@ fn clear_rows(
     requires placed_2 { Placed g s at.p at.i at.j }
     ensures { st map.new log.new result ≡ clear_after g from.p at.p r (st map.old log.old count) }
 {
-    let rows = rows_of(g, at.p, r);
-    let first = rows.0;
-    let last = rows.1;
+    let Rows(first, last) = rows_of(g, at.p, r);
     let mut n = count;
     for y in first..last + 1 {
         n = pass_row(g, map, from, at, r, t, s, y, log, n);
@@ -194,11 +183,9 @@ pub fn clear_crescent(
     let w = word_at(t, 0) as usize;
     if 0 < w {
         let s = w - 1;
-        let from = spot_of(g, s, prev);
-        let at = spot_of(g, s, c);
-        if let Place::On(a) = from {
-            if let Place::On(b) = at {
-                return clear_rows(g, map, a, b, r, t, s, log, count);
+        if let Some(from) = spot_of(g, s, prev) {
+            if let Some(at) = spot_of(g, s, c) {
+                return clear_rows(g, map, from, at, r, t, s, log, count);
             }
         }
     }

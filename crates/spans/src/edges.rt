@@ -1,22 +1,12 @@
 // Where the points of a cell lie on a side of the grid: between two numbers that the side's arithmetic puts into other
 // cells. Tested, so that no rounding has to be reckoned with.
-ghost use Rattle.std.specs.Prelude.{◌≡◌, true, ◌-◌, ◌≤◌, ◌<◌};
+ghost use Rattle.std.specs.Prelude.{◌≡◌, true, ◌≤◌, ◌<◌};
 ghost use Rattle.raster.specs.Grid.{Sides};
 ghost use Rattle.spans.specs.Ends.{below_of, beyond_of, Edged, AllEdged, Tame};
 
 use numbers::cast::float_of;
 use numbers::order::is_finite;
 use raster::grid::Grid;
-
-// Where the cells of a side of n end that have s cells after them.
-pub fn end_with(n: usize, s: usize) -> usize
-    ensures { result ≡ n - s }
-{
-    if s < n {
-        return n - s;
-    }
-    0
-}
 
 pub fn below(o: f64, cell: f64, i: usize) -> f64
     ensures { result ≡ below_of o cell i }

@@ -1,5 +1,5 @@
 // The table filled in: the columns of a disk's rows, each tested at the edges of every row and column with room.
-ghost use Rattle.std.specs.Prelude.{◌≡◌, true, ◌+◌, ◌*◌, ◌≤◌, ◌<◌, length};
+ghost use Rattle.std.specs.Prelude.{◌≡◌, true, IfSome, ◌+◌, ◌*◌, ◌≤◌, ◌<◌, length};
 ghost use Rattle.std.specs.Float.{binary64};
 ghost use Rattle.std.specs.Float.Ieee.{mul};
 ghost use Rattle.numbers.specs.Order.{is_finite};
@@ -19,10 +19,9 @@ fn reach(g: Grid, r: f64) -> usize
     numbers::cast::sat_u32(numbers::whole::ceil(r / g.cell)) as usize + 1
 }
 
-// Two words of a row, if they are known.
+// Two words of a row.
 #[derive(Clone, Copy)]
 pub struct Pair {
-    pub known: bool,
     pub outer: u64,
     pub inner: u64,
 }
@@ -41,29 +40,24 @@ fn is_small(b: Bounds) -> bool
     (b.first < 65536) & (b.last < 65536)
 }
 
-// The words of row q.
-fn row(g: Grid, r: f64, s: usize, q: usize) -> Pair
+// The words of row q, if they can be told.
+fn row(g: Grid, r: f64, s: usize, q: usize) -> Option<Pair>
     requires sides { Sides g }
     requires tame { Tame g }
     requires r_value { is_finite (mul binary64 r r) ≡ true }
     requires s_nonzero { (0 < s) × (s ≤ 65536) × (q ≤ 2 * s) }
-    ensures { result.known ≡ true → RowTold g r s q result }
+    ensures { IfSome result (RowTold g r s q) }
 {
-    let h = heights_of(g, r * r, s, q);
-    let o = outer_of(g, s, h.most);
+    let h = heights_of(g, r * r, s, q)?;
+    let o = outer_of(g, s, h.most)?;
     let n = inner_of(g, s, h.least);
-    if h.known & (o.known & (is_small(o) & is_small(n))) {
-        return Pair {
-            known: true,
+    if is_small(o) & is_small(n) {
+        return Some(Pair {
             outer: packed(o),
             inner: packed(n),
-        };
+        });
     }
-    Pair {
-        known: false,
-        outer: 0,
-        inner: 0,
-    }
+    None
 }
 
 fn rows(g: Grid, r: f64, s: usize, t: &mut [f64]) -> bool
@@ -74,10 +68,9 @@ fn rows(g: Grid, r: f64, s: usize, t: &mut [f64]) -> bool
     ensures { (length t.new ≡ length t.old) × (result ≡ true → Entries g r s (2 * s + 1) t.new) }
 {
     for q in 0..2 * s + 1 {
-        let p = row(g, r, s, q);
-        if !p.known {
+        let Some(p) = row(g, r, s, q) else {
             return false;
-        }
+        };
         t[2 * q + 1] = f64::from_bits(p.outer);
         t[2 * q + 2] = f64::from_bits(p.inner);
     }

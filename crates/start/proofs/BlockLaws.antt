@@ -109,7 +109,7 @@ module _ (s : Setup) (P : Plain s) where
     middle-is = rw (row_same, column-same)
 
   pub told_is : Sides s.grid → (vs : List Float) (lens : List ℕ) (k i j m u : ℕ) (lo hi : Vec2) (t : Bool) → i ≡ k % s.grid.nx → j ≡ k / s.grid.nx → i + m < s.grid.nx
-      → lo ≡ center_of s.grid i j → hi ≡ center_of s.grid (i + m) j → u ≡ k → (t ≡ true → Apart (corners lo hi) (λ p. any_within vs lens s.region p s.keep))
+      → lo ≡ center_of s.grid i j → hi ≡ center_of s.grid (i + m) j → u ≡ k → (t ≡ true → Apart (corners lo hi) (λ p. any_within vs lens s.region p s.keep.r))
       → Told s vs lens k (record { upto = u + m + 1; apart = t })
   told_is S vs lens k i j m u lo hi t I J M L H U A = record {
     none = λ e z l h.
@@ -117,7 +117,7 @@ module _ (s : Setup) (P : Plain s) where
         let n : z ≤ k + m = omega arith in
         let q = center_of s.grid (k % s.grid.nx + (z - k)) (k / s.grid.nx) in
         let held : Holds (corners lo hi) q = rw (L, H, I, J) (centre-held (k / s.grid.nx) (k % s.grid.nx) (k % s.grid.nx + (z - k)) (k % s.grid.nx + m) (omega arith) (omega arith)) in
-        subst (λ (p : Vec2). any_within vs lens s.region p s.keep ≡ false) (middle-is S k m z r l n) ((A e).none q held);
+        subst (λ (p : Vec2). any_within vs lens s.region p s.keep.r ≡ false) (middle-is S k m z r l n) ((A e).none q held);
   }
 
 -- the cells after the first one

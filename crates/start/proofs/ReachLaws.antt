@@ -22,6 +22,7 @@ use Rattle.geom.specs.declared.vec2.Vec2.{Vec2}
 use Rattle.distance.specs.Least.{at, MapSides}
 use Rattle.distance.specs.Nearest.{nearest, listed, transform_of}
 use Rattle.distance.specs.Rooted.{rooted_of, distance_transform}
+use Rattle.std.specs.Prelude.{Some}
 use Rattle.distance.specs.Limits.{scaled_of, passes_of}
 use Rattle.distance.specs.declared.limits.Threshold.{Threshold}
 use Rattle.distance.proofs.NearestLaws.{listed-long, listed_at, room, transform_at}
@@ -113,24 +114,24 @@ with_true false b e = refl
 
 -- of a centre in the region
 module _ (s : Setup) (vs : List Float) (lens : List ℕ) (k : ℕ) (I : contains_of vs lens s.region (middle s k) ≡ true) where
-  pub clear_apart : any_within vs lens s.region (middle s k) s.keep ≡ false → true ≡ clear_at s vs lens k
+  pub clear_apart : any_within vs lens s.region (middle s k) s.keep.r ≡ false → true ≡ clear_at s vs lens k
   unfolding clear_at
   clear_apart e = rw e (sym I)
 
-  pub clear_asked : (q : Vec2) → q ≡ middle s k → (t : Bool) → t ≡ any_within vs lens s.region q s.keep → not t ≡ clear_at s vs lens k
+  pub clear_asked : (q : Vec2) → q ≡ middle s k → (t : Bool) → t ≡ any_within vs lens s.region q s.keep.r → not t ≡ clear_at s vs lens k
   unfolding clear_at
-  clear_asked q Q t T = ap not (T ∙ ap (λ (z : Vec2). any_within vs lens s.region z s.keep) Q) ∙ with_true _ _ I
+  clear_asked q Q t T = ap not (T ∙ ap (λ (z : Vec2). any_within vs lens s.region z s.keep.r) Q) ∙ with_true _ _ I
 
 module _ (s : Setup) (vs : List Float) (lens : List ℕ) (k inside : ℕ) (wall : Float) where
   pub may_out : (inside ≡ 1 → ⊥) → 0 ≡ may_byte s vs lens k inside wall
   unfolding may_byte
   may_out d = rw (ne_eqb inside 1 d)
 
-  pub may_wall : inside ≡ 1 → lt (add binary64 wall s.grid.cell) s.keep ≡ true → 0 ≡ may_byte s vs lens k inside wall
+  pub may_wall : inside ≡ 1 → lt (add binary64 wall s.grid.cell) s.keep.r ≡ true → 0 ≡ may_byte s vs lens k inside wall
   unfolding may_byte
   may_wall d e = rw (eq-eqb inside 1 d, e)
 
-  pub may_clear : inside ≡ 1 → lt (add binary64 wall s.grid.cell) s.keep ≡ false → (c : Bool) → c ≡ clear_at s vs lens k → flag c ≡ may_byte s vs lens k inside wall
+  pub may_clear : inside ≡ 1 → lt (add binary64 wall s.grid.cell) s.keep.r ≡ false → (c : Bool) → c ≡ clear_at s vs lens k → flag c ≡ may_byte s vs lens k inside wall
   unfolding may_byte
   may_clear d e c C = rw (eq-eqb inside 1 d, e, C)
 
@@ -159,7 +160,7 @@ module _ (t : Threshold) (start square : ℕ) where
   unfolding near_byte
   near_none d = rw (ne_eqb start 1 d)
 
-  pub near-is : start ≡ 1 → (r : Bool) → r ≡ passes_of t.scaled t.scale t.strict t.x square → flag r ≡ near_byte t start square
+  pub near-is : start ≡ 1 → (r : Bool) → r ≡ passes_of t square → flag r ≡ near_byte t start square
   unfolding near_byte
   near-is d r R = rw (eq-eqb start 1 d, R)
 
@@ -172,7 +173,7 @@ near-turn t n a squares b b' h K o k v l E =
     (ap (λ (z : ℕ). get_or b' z 0) (let z : k ≡ 0 + k = omega arith in z) ∙ read-run n 2 a K b (omega arith) b' o 0 0 (λ z. omega arith) (omega arith) k 0 l)
 
 abbrev pub threshold : Setup → Threshold
-threshold s = record { scaled = true; scale = s.grid.cell; strict = false; x = sub binary64 s.r (mul binary64 half s.grid.cell) }
+threshold s = record { scale = Some s.grid.cell; strict = false; x = sub binary64 s.r (mul binary64 half s.grid.cell) }
 
 module _ (s : Setup) (b u u' : List ℕ) (n a : ℕ) (N : n ≡ cells_of s) (K : a ≡ 1 * n) (U : u' ≡ transform_of 1 (take (a + n - a) (drop a b)) s.grid.nx s.grid.ny u) where
   may_go : take (a + n - a) (drop a b) ≡ run 1 (cells_of s) b

@@ -9,7 +9,6 @@ use lib.Ieee.{Float}
 use borrow.Rule.Slice.PartMut.{put_mid}
 use Rattle.loops.specs.Regions.{Fits, within}
 use Rattle.loops.proofs.FrameLaws.{back_there, back-only, only-before}
-use Rattle.numbers.specs.Bound.{Bounds}
 use Rattle.geom.specs.Region.{Held}
 use Rattle.raster.specs.Grid.{Sides}
 use Rattle.raster.specs.declared.grid.Grid.{Grid}
@@ -55,7 +54,7 @@ log_is g u t n a N K h T =
 
 -- ---- all of it
 
-module _ (s : Setup) (whole : Bool) (vs : List Float) (lens regions b u : List ℕ) (w : List Float) (sides : Sides s.grid) (held : Held vs lens s.region) (bound : Bounds s.keep s.bound)
+module _ (s : Setup) (whole : Bool) (vs : List Float) (lens regions b u : List ℕ) (w : List Float) (sides : Sides s.grid) (held : Held vs lens s.region)
     (room : Room (cells_of s) (length b) (length u) (length w)) (b₁ b₂ : List ℕ) (w₂ w₃ : List Float) (u₃ : List ℕ) where
   pub started-is : Stocked s.grid whole vs lens regions b₁ → Reached s vs lens b₁ b₂ w₂ → Tabled s w₂ w₃ → run 24 (cells_of s) u₃ ≡ zeros (cells_of s)
       → length b₂ ≡ length b → length u₃ ≡ length u → length w₃ ≡ length w → Started s whole vs lens regions b₂ u₃ w₃
@@ -78,7 +77,6 @@ module _ (s : Setup) (whole : Bool) (vs : List Float) (lens regions b u : List �
           words = omega (arith, room.words);
           doubles = omega (arith, room.doubles);
           held = held;
-          bound = bound;
           tables = W.tables;
         };
       }

@@ -58,12 +58,12 @@ flag b = cond b 1 0
 unfoldable pub clear_at : Setup → List Float → List ℕ → ℕ → Bool
 clear_at s vs lens k =
     let q = center_of s.grid (k % s.grid.nx) (k / s.grid.nx) in
-    not (any_within vs lens s.region q s.keep) && contains_of vs lens s.region q
+    not (any_within vs lens s.region q s.keep.r) && contains_of vs lens s.region q
 
 -- inside, by the wall distance not sure to be too near (wall_dist[k] + cell < keep), and clear by the exact test
 unfoldable pub may_at : Setup → List Float → List ℕ → List ℕ → List Float → ℕ → Bool
 may_at s vs lens inside wall k =
-    eqb (get_or inside k 0) 1 && (not (lt (add binary64 (get_or wall k nan) s.grid.cell) s.keep) && clear_at s vs lens k)
+    eqb (get_or inside k 0) 1 && (not (lt (add binary64 (get_or wall k nan) s.grid.cell) s.keep.r) && clear_at s vs lens k)
 
 unfoldable pub allowed_of : Setup → List Float → List ℕ → List ℕ → List Float → List ℕ
 allowed_of s vs lens inside wall = listed (cells_of s) (λ k. flag (may_at s vs lens inside wall k))

@@ -2,7 +2,6 @@
 use Rattle.std.specs.Prelude.{◌≡◌, Bool, cond, not, ◌&&◌, List, ℕ, ◌+◌, ◌*◌, ◌≤◌, get_or, replicate, eqb, Float}
 use Rattle.std.specs.Float.{binary64}
 use Rattle.std.specs.Float.Ieee.{add, mul, lt}
-use Rattle.numbers.specs.Bound.{Bounds}
 use Rattle.geom.specs.Region.{Held}
 use Rattle.distance.specs.Rooted.{rooted_of}
 use Rattle.distance.specs.Limits.{passes_of}
@@ -56,11 +55,11 @@ length_at cell squares k = mul binary64 (rooted_of (get_or squares k 0)) cell
 
 -- whether the tool may be at cell k
 unfoldable pub may_byte : Setup → List Float → List ℕ → ℕ → ℕ → Float → ℕ
-may_byte s vs lens k inside wall = flag (eqb inside 1 && (not (lt (add binary64 wall s.grid.cell) s.keep) && clear_at s vs lens k))
+may_byte s vs lens k inside wall = flag (eqb inside 1 && (not (lt (add binary64 wall s.grid.cell) s.keep.r) && clear_at s vs lens k))
 
 -- whether a cell is stock and within a bound of where the tool may go
 unfoldable pub near_byte : Threshold → ℕ → ℕ → ℕ
-near_byte t start square = flag (eqb start 1 && passes_of t.scaled t.scale t.strict t.x square)
+near_byte t start square = flag (eqb start 1 && passes_of t square)
 
 abbrev pub near_at : Threshold → List ℕ → List ℕ → ℕ → ℕ
 near_at t start squares k = near_byte t (get_or start k 0) (get_or squares k 0)
@@ -69,7 +68,6 @@ near_at t start squares k = near_byte t (get_or start k 0) (get_or squares k 0)
 pub record Placed (s : Setup) (vs : List Float) (lens : List ℕ) : Type 0 where
   pub sides : Sides s.grid
   pub held : Held vs lens s.region
-  pub bound : Bounds s.keep s.bound
 
 -- what the tool can do is worked out from the stock and from what is inside
 pub record Reached (s : Setup) (vs : List Float) (lens b b' : List ℕ) (w' : List Float) : Type 0 where

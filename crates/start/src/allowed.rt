@@ -23,9 +23,9 @@ fn is_clear(s: Setup, vs: &[f64], lens: &[u32], c: CellNo, apart: bool) -> bool
     }
     let g = s.grid;
     let region = s.region;
-    let bound = s.bound;
+    let keep = s.keep;
     let q = center(g, column_of(g, c), row_of(g, c));
-    !geom::segment::any_within(vs, lens, region, q, s.keep, bound)
+    !geom::segment::any_within(vs, lens, region, q, keep)
 }
 
 // Whether the tool may be at a cell's centre, its byte inside and its wall distance given: cells that are
@@ -38,7 +38,7 @@ fn may_be(s: Setup, vs: &[f64], lens: &[u32], c: CellNo, inside: u8, wall: f64, 
     if inside != 1 {
         return 0;
     }
-    if wall + s.grid.cell < s.keep {
+    if wall + s.grid.cell < s.keep.r {
         return 0;
     }
     if is_clear(s, vs, lens, c, apart) {

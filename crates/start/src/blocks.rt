@@ -24,7 +24,7 @@ pub fn is_plain(s: Setup) -> bool
     let origin = g.origin;
     let corner = is_finite(origin.x) & is_finite(origin.y);
     let positive = is_finite(g.cell) & (0.0 < g.cell);
-    (corner & positive) & is_rooted(s.keep)
+    (corner & positive) & is_rooted(s.keep.r)
 }
 
 // How many cells a block has after that of column i: up to 31, and none of the next row.
@@ -32,8 +32,7 @@ fn more_from(nx: usize, i: usize) -> usize
     requires { i < nx }
     ensures { i + result < nx }
 {
-    let rest = nx - 1 - i;
-    if rest < 31 { rest } else { 31 }
+    (nx - 1 - i).min(31)
 }
 
 // The block from cell c on: its box goes from the first centre to the last.
@@ -52,7 +51,7 @@ fn block_at(s: Setup, vs: &[f64], lens: &[u32], c: CellNo) -> Block
     let region = s.region;
     Block {
         upto: index_of(c) + more + 1,
-        apart: all_apart(vs, lens, region, corners, s.keep),
+        apart: all_apart(vs, lens, region, corners, s.keep.r),
     }
 }
 

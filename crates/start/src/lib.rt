@@ -3,7 +3,6 @@
 #![tactic(auto)]
 
 ghost use Rattle.std.specs.Prelude.{◌≡◌, ◌≤◌, length};
-ghost use Rattle.numbers.specs.Bound.{Bounds};
 ghost use Rattle.raster.specs.Grid.{Sides};
 ghost use Rattle.setup.specs.Place.{cells_of};
 ghost use Rattle.entry.specs.Regions.{pocket_of, AllHeld};
@@ -36,7 +35,6 @@ pub fn fill(
     requires sides { Sides s.grid }
     requires all_held { AllHeld vs.now lens.now regions.now }
     requires region_value { s.region ≡ pocket_of lens.now regions.now }
-    requires bounds { Bounds s.keep s.bound }
     requires samples_bound { s.samples ≤ 2048 }
     requires room { Room (cells_of s) (length b.old) (length u.old) (length w.old) }
     ensures { Started s whole vs.now lens.now regions.now b.new u.new w.new }

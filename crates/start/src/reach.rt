@@ -1,6 +1,5 @@
 // What the tool can do: where it may go, and which stock it then reaches.
 ghost use Rattle.std.specs.Prelude.{◌≡◌, ◌+◌, ◌*◌, ◌≤◌, length};
-ghost use Rattle.distance.specs.Limits.{LimitOf};
 ghost use Rattle.distance.specs.Nearest.{listed};
 ghost use Rattle.raster.specs.Grid.{Sides};
 ghost use Rattle.setup.specs.Layout.{most, put_run, map_in, allowed_in};
@@ -10,16 +9,15 @@ ghost use Rattle.start.specs.Steps.{inside_in, Room, Placed, Reached, near_byte,
 
 use super::allowed::fill_allowed;
 use super::walls::fill_walls;
-use distance::limits::{Limit, Threshold, is_within, limit_of};
+use distance::limits::{Limit, Threshold};
 use setup::{Setup, layout};
 
 // Whether a cell is stock and near enough to where the tool may go.
-fn near_byte(t: Threshold, l: Limit, start: u8, square: u32) -> u8
-    requires { LimitOf t.scaled t.scale t.strict t.x l.told l.below }
-    ensures { result ≡ near_byte t start square }
+fn near_byte(l: Limit, start: u8, square: u32) -> u8
+    ensures { result ≡ near_byte l.threshold start square }
 {
     if start == 1 {
-        if is_within(t, l, square) {
+        if l.is_within(square) {
             return 1;
         }
     }
@@ -27,16 +25,15 @@ fn near_byte(t: Threshold, l: Limit, start: u8, square: u32) -> u8
 }
 
 // The cells of the stock map whose square is within the bound.
-fn mark_near(n: usize, t: Threshold, l: Limit, squares: &[u32], b: &mut [u8])
+fn mark_near(n: usize, l: Limit, squares: &[u32], b: &mut [u8])
     requires n_le_most { n ≤ most }
-    requires limit_of { LimitOf t.scaled t.scale t.strict t.x l.told l.below }
     requires n_in_bounds { n ≤ length squares.now }
     requires n_in_bounds_2 { 8 * n ≤ length b.old }
-    ensures { b.new ≡ put_run 2 n (listed n (near_at t (map_in n b.old) squares.now)) b.old }
+    ensures { b.new ≡ put_run 2 n (listed n (near_at l.threshold (map_in n b.old) squares.now)) b.old }
 {
     let a = layout::reach(n);
     for k in 0..n {
-        b[a + k] = near_byte(t, l, b[k], squares[k]);
+        b[a + k] = near_byte(l, b[k], squares[k]);
     }
 }
 
@@ -53,12 +50,11 @@ fn fill_reach(s: Setup, b: &mut [u8], u: &mut [u32])
     let e = a + n;
     distance::transform(&b[a..e], 1, g.nx, g.ny, u);
     let t = Threshold {
-        scaled: true,
-        scale: g.cell,
+        scale: Some(g.cell),
         strict: false,
         x: s.r - 0.5 * g.cell,
     };
-    mark_near(n, t, limit_of(t), u, b);
+    mark_near(n, Limit::of(t), u, b);
 }
 
 pub fn reach(s: Setup, vs: &[f64], lens: &[u32], b: &mut [u8], u: &mut [u32], w: &mut [f64])

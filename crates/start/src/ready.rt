@@ -1,6 +1,5 @@
 // A job set up: the workspace filled, field and outputs zeroed.
 ghost use Rattle.std.specs.Prelude.{◌≡◌, ◌≤◌, ◌<◌, length, replicate};
-ghost use Rattle.numbers.specs.Bound.{Bounds};
 ghost use Rattle.geom.specs.Vec.{f0};
 ghost use Rattle.raster.specs.Grid.{Sides};
 ghost use Rattle.setup.specs.Made.{setup_of};
@@ -15,7 +14,6 @@ use entry::judge::pocket_of;
 use entry::params::AdaptiveParams;
 use raster::grid::Grid;
 use setup::Setup;
-use setup::fill::{fill_doubles, fill_singles, fill_words};
 
 pub fn setup_of(p: AdaptiveParams, g: Grid, lens: &[u32], regions: &[u32]) -> Setup
     requires { 0 < length regions.now }
@@ -48,7 +46,6 @@ pub fn make_ready(
     requires sides { Sides s.grid }
     requires all_held { AllHeld vs.now lens.now regions.now }
     requires region_value { s.region ≡ pocket_of lens.now regions.now }
-    requires bounds { Bounds s.keep s.bound }
     requires samples_bound { s.samples ≤ 2048 }
     requires room { Room (cells_of s) (length b.old) (length u.old) (length w.old) }
     ensures started { Started s whole vs.now lens.now regions.now b.new u.new w.new }
@@ -57,7 +54,7 @@ pub fn make_ready(
     ensures triples_after { triples.new ≡ replicate (length triples.old) f0 }
 {
     fill(s, whole, vs, lens, regions, b, u, w);
-    fill_singles(f, 0.0);
-    fill_words(rows, 0);
-    fill_doubles(triples, 0.0);
+    f.fill(0.0);
+    rows.fill(0);
+    triples.fill(0.0);
 }

@@ -11,9 +11,8 @@ ghost use Rattle.start.specs.Start.{add_regions};
 ghost use Rattle.start.specs.Steps.{inside_in, stock_byte, stock_at, Filled, Stocked};
 
 use filling::region::fill_region;
-use geom::region::{Region, size};
+use geom::region::{Region, size, sizes};
 use raster::grid::Grid;
-use setup::fill::fill_bytes;
 use setup::layout;
 
 // Where the vertices of a region end.
@@ -22,11 +21,9 @@ fn end_of(lens: &[u32], r: Region) -> usize
     requires loops_bound { start_of lens.now r r.loops < 2 ^ 63 }
     ensures { result ≡ start_of lens.now r r.loops }
 {
-    let first = r.first;
-    let start = r.at;
-    let mut at = start;
-    for l in 0..r.loops {
-        at += size(lens, first + l);
+    let mut at = r.at;
+    for n in sizes(lens, r) {
+        at += *n as usize;
     }
     at
 }
@@ -117,7 +114,7 @@ fn fill_regions(
     requires nx_in_bounds_2 { 32 * (g.ny * g.nx) + 8192 ≤ length w.old }
     ensures { Filled g whole vs.now lens.now regions.now b.new }
 {
-    fill_bytes(b, 0);
+    b.fill(0);
     fill_inside(g, vs, lens, pocket, b, w);
     if whole {
         return;
@@ -159,7 +156,7 @@ fn clear_abandoned(n: usize, b: &mut [u8])
 {
     let a = layout::abandoned(n);
     let e = a + n;
-    fill_bytes(&mut b[a..e], 0);
+    b[a..e].fill(0);
 }
 
 pub fn stock(

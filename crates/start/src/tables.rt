@@ -6,7 +6,6 @@ ghost use Rattle.setup.specs.Place.{cells_of};
 ghost use Rattle.start.specs.Steps.{Tabled};
 
 use raster::grid::Grid;
-use setup::fill::fill_words;
 use setup::{Setup, layout};
 
 pub fn tables(s: Setup, w: &mut [f64])
@@ -29,5 +28,5 @@ pub fn clear_log(g: Grid, u: &mut [u32])
     let n = layout::cells(g);
     let a = layout::log(n);
     let e = a + n;
-    fill_words(&mut u[a..e], 0);
+    u[a..e].fill(0);
 }

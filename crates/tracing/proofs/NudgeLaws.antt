@@ -17,27 +17,26 @@ use Rattle.geom.specs.declared.vec2.Vec2.{Vec2}
 use Rattle.geom.proofs.PointLaws.{put-length, put-here, put_there}
 use Rattle.pieces.specs.Piece.{Piece, row_at, piece_of, pieces_at, end_of}
 use Rattle.tracing.specs.Ring.{around_of, looked_end, placed_by, placed_end, look_at, look_round, look_farther, nudge_inside, nudged_piece, nudge_put, nudge_all}
-use Rattle.tracing.specs.declared.nudge.Nudge.{Nudge}
-use Rattle.tracing.specs.declared.nudge.Nudge.TheVariants.{Still, To}
+use Rattle.std.specs.Prelude.{Option, Some, None}
 
 -- ---- one point
 
 module _ (allowed : Vec2 → Bool) (cell : Float) (q : Vec2) where
-  module _ (r k : ℕ) (g : Going (turn (look_at allowed cell q r)) 0 16 (on Still) (on Still) k) (p : Vec2) (a : Bool) (P : p ≡ around_of cell q r k) (A : a ≡ allowed p) where
+  module _ (r k : ℕ) (g : Going (turn (look_at allowed cell q r)) 0 16 (on None) (on None) k) (p : Vec2) (a : Bool) (P : p ≡ around_of cell q r k) (A : a ≡ allowed p) where
     tested : allowed (around_of cell q r k) ≡ a
     tested = ap allowed (sym P) ∙ sym A
 
-    pub looked-at : k < 16 → a ≡ true → To p ≡ look_round allowed cell q r
+    pub looked-at : k < 16 → a ≡ true → Some p ≡ look_round allowed cell q r
     unfolding look_round looked_end look_at
-    looked-at h e = ap To P ∙ sym (ap looked_end (going_out (look_at allowed cell q r) 0 16 (on Still) Still k (To (around_of cell q r k)) g h (rw (tested ∙ e))))
+    looked-at h e = ap (λ (x : Vec2). Some x) P ∙ sym (ap looked_end (going_out (look_at allowed cell q r) 0 16 (on None) None k (Some (around_of cell q r k)) g h (rw (tested ∙ e))))
 
-    pub looked-on : k < 16 → a ≡ false → Going (turn (look_at allowed cell q r)) 0 16 (on Still) (on Still) (k + 1)
+    pub looked-on : k < 16 → a ≡ false → Going (turn (look_at allowed cell q r)) 0 16 (on None) (on None) (k + 1)
     unfolding look_at
-    looked-on h e = going_on (look_at allowed cell q r) 0 16 (on Still) Still Still k g h (rw (tested ∙ e))
+    looked-on h e = going_on (look_at allowed cell q r) 0 16 (on None) None None k g h (rw (tested ∙ e))
 
-  pub looked-none : (r k : ℕ) → Going (turn (look_at allowed cell q r)) 0 16 (on Still) (on Still) k → 16 ≤ k → Still ≡ look_round allowed cell q r
+  pub looked-none : (r k : ℕ) → Going (turn (look_at allowed cell q r)) 0 16 (on None) (on None) k → 16 ≤ k → None ≡ look_round allowed cell q r
   unfolding look_round looked_end
-  looked-none r k g h = ap looked_end (going_end (turn (look_at allowed cell q r)) 0 16 (on Still) (on Still) k g h)
+  looked-none r k g h = ap looked_end (going_end (turn (look_at allowed cell q r)) 0 16 (on None) (on None) k g h)
 
   abbrev Farther : ℕ → Type 0
   Farther r = Going (turn (look_farther allowed cell q)) 1 9 (on q) (on q) r
@@ -47,7 +46,7 @@ module _ (allowed : Vec2 → Bool) (cell : Float) (q : Vec2) where
   nudge_none a A e = rw (sym A ∙ e)
 
   module _ (a : Bool) (A : a ≡ allowed q) (e : a ≡ false) (r : ℕ) (g : Farther r) where
-    pub nudge_to : r < 9 → (n : Nudge) (p : Vec2) → n ≡ look_round allowed cell q r → n ≡ To p → p ≡ nudge_inside allowed cell q
+    pub nudge_to : r < 9 → (n : Option Vec2) (p : Vec2) → n ≡ look_round allowed cell q r → n ≡ Some p → p ≡ nudge_inside allowed cell q
     unfolding nudge_inside placed_end look_farther placed_by
     nudge_to h n p N t =
         rw (sym A ∙ e) (sym (ap placed_end (going_out (look_farther allowed cell q) 1 9 (on q) q r p g h (ap (placed_by q) (sym N ∙ t)))))
@@ -56,7 +55,7 @@ module _ (allowed : Vec2 → Bool) (cell : Float) (q : Vec2) where
     unfolding nudge_inside placed_end
     nudge_end h = rw (sym A ∙ e) (ap placed_end (going_end (turn (look_farther allowed cell q)) 1 9 (on q) (on q) r g h))
 
-  pub nudge_on : (r : ℕ) → Farther r → r < 9 → (n : Nudge) → n ≡ look_round allowed cell q r → n ≡ Still → Farther (r + 1)
+  pub nudge_on : (r : ℕ) → Farther r → r < 9 → (n : Option Vec2) → n ≡ look_round allowed cell q r → n ≡ None → Farther (r + 1)
   unfolding look_farther placed_by
   nudge_on r g h n N t = going_on (look_farther allowed cell q) 1 9 (on q) q q r g h (sym (ap (placed_by q) (sym N ∙ t)))
 

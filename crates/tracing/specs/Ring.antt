@@ -1,5 +1,5 @@
 -- The ring along the boundary of where the tool may go, as `plan` and `nudge_inside` of adaptive.rs have it. Definitions only.
-use Rattle.std.specs.Prelude.{ℕ, ◌≡◌, Bool, cond, List, map, length, Float}
+use Rattle.std.specs.Prelude.{ℕ, ◌≡◌, Bool, cond, List, map, length, Float, Option, Some, None}
 use Rattle.std.specs.Float.{binary32, binary64}
 use Rattle.std.specs.Float.Ieee.{of_bits, mul, div}
 use Rattle.loops.specs.Loop.{loop, Run, on, out, turn}
@@ -20,8 +20,6 @@ use Rattle.pieces.specs.Piece.{Piece}
 use Rattle.contours.specs.Curve.{contours_of}
 use Rattle.workspace.specs.Standing.{abandoned_in, CellsKept, WallsKept}
 use Rattle.workspace.specs.Lies.{Lies}
-use Rattle.tracing.specs.declared.nudge.Nudge.{Nudge}
-use Rattle.tracing.specs.declared.nudge.Nudge.TheVariants.{Still, To}
 
 -- ---- a point pulled to the allowed side
 
@@ -29,13 +27,13 @@ use Rattle.tracing.specs.declared.nudge.Nudge.TheVariants.{Still, To}
 unfoldable pub around_of : Float → Vec2 → ℕ → ℕ → Vec2
 around_of cell q r k = sum q (scaled (from_angle (div binary64 (mul binary64 tau (float k)) f16)) (mul binary64 (mul binary64 (float r) quarter) cell))
 
-unfoldable pub looked_end : Run Nudge Nudge → Nudge
+unfoldable pub looked_end : Run (Option Vec2) (Option Vec2) → Option Vec2
 looked_end (on p) = p
 looked_end (out p) = p
 
-unfoldable pub placed_by : Vec2 → Nudge → Run Vec2 Vec2
-placed_by q Still = on q
-placed_by q (To p) = out p
+unfoldable pub placed_by : Vec2 → Option Vec2 → Run Vec2 Vec2
+placed_by q None = on q
+placed_by q (Some p) = out p
 
 unfoldable pub placed_end : Run Vec2 Vec2 → Vec2
 placed_end (on p) = p
@@ -43,11 +41,11 @@ placed_end (out p) = p
 
 module _ (allowed : Vec2 → Bool) (cell : Float) (q : Vec2) where
   -- for k in 0..16
-  unfoldable pub look_at : ℕ → ℕ → Nudge → Run Nudge Nudge
-  look_at r k p = cond (allowed (around_of cell q r k)) (out (To (around_of cell q r k))) (on p)
+  unfoldable pub look_at : ℕ → ℕ → Option Vec2 → Run (Option Vec2) (Option Vec2)
+  look_at r k p = cond (allowed (around_of cell q r k)) (out (Some (around_of cell q r k))) (on p)
 
-  unfoldable pub look_round : ℕ → Nudge
-  look_round r = looked_end (loop (turn (look_at r)) 0 16 (on Still))
+  unfoldable pub look_round : ℕ → Option Vec2
+  look_round r = looked_end (loop (turn (look_at r)) 0 16 (on None))
 
   -- for r in 1..=8
   unfoldable pub look_farther : ℕ → Vec2 → Run Vec2 Vec2

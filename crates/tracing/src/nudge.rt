@@ -15,13 +15,6 @@ use numbers::circle::TAU;
 use setup::place::allowed_at;
 use setup::{Setup, layout};
 
-// Where a point is pulled to, if a place is found.
-#[derive(Clone, Copy)]
-pub enum Nudge {
-    Still,
-    To(Vec2),
-}
-
 // Point k of sixteen round q, at r quarters of a cell.
 fn around(cell: f64, q: Vec2, r: usize, k: usize) -> Vec2
     ensures { result ≡ around_of cell q r k }
@@ -31,7 +24,7 @@ fn around(cell: f64, q: Vec2, r: usize, k: usize) -> Vec2
 }
 
 // The first of the sixteen that is allowed.
-fn look_round(s: Setup, wall: &[f64], vs: &[f64], lens: &[u32], q: Vec2, r: usize) -> Nudge
+fn look_round(s: Setup, wall: &[f64], vs: &[f64], lens: &[u32], q: Vec2, r: usize) -> Option<Vec2>
     requires { Walls s wall.now vs.now lens.now }
     ensures { result ≡ look_round (allowed_at s wall.now vs.now lens.now) s.grid.cell q r }
 {
@@ -39,10 +32,10 @@ fn look_round(s: Setup, wall: &[f64], vs: &[f64], lens: &[u32], q: Vec2, r: usiz
     for k in 0..16 {
         let p = around(g.cell, q, r, k);
         if allowed_at(s, wall, vs, lens, p) {
-            return Nudge::To(p);
+            return Some(p);
         }
     }
-    Nudge::Still
+    None
 }
 
 // q where it is allowed; else the first place that is found, up to two cells away; else q.
@@ -55,7 +48,7 @@ pub fn nudge_inside(s: Setup, wall: &[f64], vs: &[f64], lens: &[u32], q: Vec2) -
     }
     for r in 1..9 {
         let n = look_round(s, wall, vs, lens, q, r);
-        if let Nudge::To(p) = n {
+        if let Some(p) = n {
             return p;
         }
     }

@@ -7,8 +7,8 @@ use Rattle.numbers.specs.Whole.{floor_of, ceil_of, round_of}
 use Rattle.numbers.specs.Narrow.{narrow_of}
 use Rattle.numbers.specs.Root.{root_of}
 use Rattle.numbers.specs.Circle.{cos_of, sin_of, radians_of, degrees_of}
-use Rattle.numbers.specs.declared.order.Ordering.{Ordering}
-use Rattle.numbers.specs.declared.order.Ordering.TheVariants.{Less, Equal, Greater}
+use Rattle.std.specs.declared.cmp.Ordering.{Ordering}
+use Rattle.std.specs.declared.cmp.Ordering.TheVariants.{Less, Equal, Greater}
 
 unfoldable pub flag_of : Bool → ℕ
 flag_of b = cond b 1 0

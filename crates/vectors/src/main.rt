@@ -7,21 +7,22 @@ mod line;
 mod name;
 mod of_numbers;
 
-ghost use Rattle.std.specs.Prelude.{◌≡◌, ◌<◌};
+ghost use Rattle.std.specs.Prelude.{◌≡◌, ◌<◌, ◌≤◌, ◌==◌, IfOk, IfSome};
 ghost use Rattle.vectors.specs.OfNumbers.{answer_of};
 
-use name::COUNT;
+use line::Words;
+use name::{COUNT, NAMES};
 use std::io;
 use std::io::Read;
 
-// Two counts for each function.
-const COUNTS: usize = 34;
+// A longer line is bad.
+const ROOM: usize = 128;
 
+// The lines of a function that can be read, and those that agreed.
 #[derive(Clone, Copy)]
-enum Verdict {
-    Agrees(usize),
-    Differs(usize),
-    Bad,
+struct Tally {
+    asked: u64,
+    agreed: u64,
 }
 
 // The place in the input: how many bytes of a line are there, and the line's number from 1.
@@ -29,163 +30,141 @@ enum Verdict {
 struct Place {
     length: usize,
     number: u64,
+    ghost fits: { length ≤ 128 },
 }
 
-// What a function's number says of the words after its name. Where they agree, the last is the answer.
-fn compared(f: usize, w: line::Words) -> Verdict
-    ensures { result ≡ Verdict.Agrees f → w.last ≡ answer_of f w.a w.b w.c }
+// Whether the last word is the answer to the words before it.
+fn agrees(f: usize, w: Words) -> bool
+    ensures { result ≡ (w.last == answer_of f w.a w.b w.c) }
 {
-    if w.bad | (w.count != of_numbers::arguments(f) + 1) {
-        return Verdict::Bad;
+    w.last == of_numbers::answer(f, w)
+}
+
+// The function's number and the words after its name. None of a line that cannot be read.
+fn call(line: &[u8]) -> Option<(usize, Words)>
+    ensures { IfSome result (λ r. r.0 < 17) }
+{
+    if ROOM <= line.len() {
+        return None;
     }
-    if of_numbers::answer(f, w) == w.last {
-        Verdict::Agrees(f)
+    let stop = line.iter().position(|c| *c == b' ')?;
+    let f = name::find(&line[..stop])?;
+    let w = line::read(&line[stop + 1..])?;
+    if w.count == of_numbers::arguments(f) + 1 {
+        Some((f, w))
     } else {
-        Verdict::Differs(f)
+        None
     }
 }
 
-fn of_line(s: &[u8; 128], end: usize) -> Verdict {
-    let stop = line::first_blank(s, end);
-    let f = name::find(s, stop);
-    if f == COUNT {
-        return Verdict::Bad;
+fn judge(
+    rt: &impl Print,
+    line: &[u8],
+    number: u64,
+    tallies: &mut [Tally; COUNT],
+) -> io::Result<()> {
+    let Some((f, w)) = call(line) else {
+        return println!(rt; "line {number} bad");
+    };
+    let t = &mut tallies[f];
+    t.asked = t.asked.wrapping_add(1);
+    if agrees(f, w) {
+        t.agreed = t.agreed.wrapping_add(1);
+        return Ok(());
     }
-    let w = line::read(s, stop, end);
-    compared(f, w)
-}
-
-fn say(rt: &impl Print, number: u64, what: &str) -> io::Result<()> {
-    println!(rt; "line {number} {what}")
-}
-
-// One more, at a place that exists.
-fn count(tally: &mut [u64; COUNTS], k: usize) {
-    if k < COUNTS {
-        tally[k] = std::num::wrapping_add_u64(tally[k], 1);
-    }
-}
-
-// A whole line: the first COUNT of the tally count the lines of a function, the others those that agreed.
-fn judge(rt: &impl Print, s: &[u8; 128], at: Place, tally: &mut [u64; COUNTS]) -> io::Result<()> {
-    let number = at.number;
-    let v = of_line(s, at.length);
-    match v {
-        Verdict::Agrees(f) => {
-            if f < COUNT {
-                count(tally, f);
-                count(tally, f + COUNT);
-            }
-            Ok(())
-        }
-        Verdict::Differs(f) => {
-            count(tally, f);
-            say(rt, number, "differs")
-        }
-        Verdict::Bad => say(rt, number, "bad"),
-    }
+    println!(rt; "line {number} differs")
 }
 
 // One byte more of the input. A line that fills its room is too long, and bad.
 fn byte(
     rt: &impl Print,
     c: u8,
-    s: &mut [u8; 128],
+    s: &mut [u8; ROOM],
     at: Place,
-    tally: &mut [u64; COUNTS],
+    tallies: &mut [Tally; COUNT],
 ) -> io::Result<Place> {
-    let length = at.length;
+    let Place { length, number } = at;
     if c == b'\n' {
-        judge(rt, s, at, tally)?;
+        judge(rt, &s[..length], number, tallies)?;
         return Ok(Place {
             length: 0,
-            number: std::num::wrapping_add_u64(at.number, 1),
+            number: number.wrapping_add(1),
         });
     }
-    if length < 128 {
+    if length < ROOM {
         s[length] = c;
         return Ok(Place {
             length: length + 1,
-            number: at.number,
+            number,
         });
     }
     Ok(at)
 }
 
-fn bytes(
-    rt: &impl Print,
-    read: &[u8],
-    s: &mut [u8; 128],
-    start: Place,
-    tally: &mut [u64; COUNTS],
-) -> io::Result<Place> {
-    let mut at = start;
-    for c in read {
-        at = byte(rt, *c, s, at, tally)?;
-    }
-    Ok(at)
-}
-
-#[derive(Clone, Copy)]
-struct Step {
-    at: Place,
-    more: bool,
-}
-
-// Reads once. Keeping the loop out of it keeps the buffer out of the loop's proof.
+// Reads once; None at the end of the input. Keeping the loop out of it keeps the buffer out of the loop's proof.
 fn some(
     rt: &impl Print,
     input: &mut impl Read,
-    s: &mut [u8; 128],
-    at: Place,
-    tally: &mut [u64; COUNTS],
-) -> io::Result<Step> {
+    s: &mut [u8; ROOM],
+    start: Place,
+    tallies: &mut [Tally; COUNT],
+) -> io::Result<Option<Place>> {
     let mut read = [0u8; 4096];
     let n = input.read(&mut read)?;
-    let next = bytes(rt, &read[..n], s, at, tally)?;
-    Ok(Step {
-        at: next,
-        more: 0 < n,
-    })
+    if n == 0 {
+        return Ok(None);
+    }
+    let mut at = start;
+    for &c in &read[..n] {
+        at = byte(rt, c, s, at, tallies)?;
+    }
+    Ok(Some(at))
+}
+
+// What stands behind the last end of a line.
+fn rest(
+    rt: &impl Print,
+    s: &[u8; ROOM],
+    at: Place,
+    tallies: &mut [Tally; COUNT],
+) -> io::Result<()> {
+    let Place { length, number } = at;
+    if length == 0 {
+        return Ok(());
+    }
+    judge(rt, &s[..length], number, tallies)
 }
 
 // The turns are counted, since nothing says that the input ends.
-fn replay(rt: &(impl Input + Print), tally: &mut [u64; COUNTS]) -> io::Result<()> {
+fn replay(rt: &(impl Input + Print), tallies: &mut [Tally; COUNT]) -> io::Result<()> {
     let mut input = rt.reader();
-    let mut s = [0u8; 128];
+    let mut s = [0u8; ROOM];
     let mut at = Place {
         length: 0,
         number: 1,
     };
     for _ in 0..u64::MAX {
-        let step = some(rt, &mut input, &mut s, at, tally)?;
-        at = step.at;
-        if !step.more {
+        let Some(next) = some(rt, &mut input, &mut s, at, tallies)? else {
             break;
-        }
+        };
+        at = next;
     }
-    if 0 < at.length {
-        judge(rt, &s, at, tally)?;
-    }
-    Ok(())
+    rest(rt, &s, at, tallies)
 }
 
-fn row(rt: &impl Print, f: usize, agreed: u64, asked: u64) -> io::Result<()>
-    requires { f < 17 }
-{
-    name::print(rt, f)?;
-    println!(rt; "{agreed} of {asked}")
-}
-
-fn report(rt: &impl Print, tally: &[u64; COUNTS]) -> io::Result<()> {
-    for f in 0..COUNT {
-        row(rt, f, tally[f + COUNT], tally[f])?;
+fn report(rt: &impl Print, tallies: &[Tally; COUNT]) -> io::Result<()> {
+    for (name, t) in NAMES.iter().zip(tallies) {
+        let Tally { asked, agreed } = *t;
+        println!(rt; "{name:<12}{agreed} of {asked}")?;
     }
     Ok(())
 }
 
 fn main(rt: HostRuntime) -> io::Result<()> {
-    let mut tally = [0u64; COUNTS];
-    replay(&rt, &mut tally)?;
-    report(&rt, &tally)
+    let mut tallies = [Tally {
+        asked: 0,
+        agreed: 0,
+    }; COUNT];
+    replay(&rt, &mut tallies)?;
+    report(&rt, &tallies)
 }

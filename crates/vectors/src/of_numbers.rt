@@ -1,11 +1,11 @@
 // The answers of `numbers`, by a function's number (see `name`). A float is its bit pattern.
 ghost use Rattle.std.specs.Prelude.{◌≡◌, ◌≤◌};
 ghost use Rattle.numbers.specs.Order.{total_of};
-ghost use Rattle.vectors.specs.OfNumbers.{flag_of, sign_of, float_of_one, one_of, answer_of};
+ghost use Rattle.vectors.specs.OfNumbers.{sign_of, float_of_one, one_of, answer_of};
 
 use super::line::Words;
 use bits::{float, pattern, single_pattern};
-use numbers::order::Ordering;
+use std::cmp::Ordering;
 
 pub fn arguments(f: usize) -> u64
     ensures { result ≤ 3 }
@@ -17,13 +17,8 @@ pub fn arguments(f: usize) -> u64
     }
 }
 
-fn flag(b: bool) -> u64
-    ensures { result ≡ flag_of b }
-{
-    if b { 1 } else { 0 }
-}
-
 // 0, 1 or 2: less, equal or greater.
+#[tactic(auto, unfolding(crate::specs::OfNumbers::sign_of))]
 fn order(a: f64, b: f64) -> u64
     ensures { result ≡ sign_of (total_of a b) }
 {
@@ -53,18 +48,20 @@ fn float_of_one(f: usize, x: f64) -> f64
 }
 
 // Of one number.
+#[tactic(auto, unfolding(crate::specs::OfNumbers::one_of, crate::specs::OfNumbers::flag_of))]
 fn of_one(f: usize, x: f64) -> u64
     ensures { result ≡ one_of f x }
 {
     match f {
         0 => numbers::cast::sat_u64(x),
         1 => numbers::cast::sat_u32(x) as u64,
-        6 => flag(numbers::order::is_finite(x)),
+        6 => u64::from(numbers::order::is_finite(x)),
         10 => single_pattern(numbers::narrow::narrow(x)),
         _ => pattern(float_of_one(f, x)),
     }
 }
 
+#[tactic(auto, unfolding(crate::specs::OfNumbers::answer_of))]
 pub fn answer(f: usize, w: Words) -> u64
     ensures { result ≡ answer_of f w.a w.b w.c }
 {

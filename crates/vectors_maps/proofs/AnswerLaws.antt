@@ -1,5 +1,5 @@
 -- A line that agrees has the answer of the definitions. Assumes nothing.
-use Rattle.std.proofs.Common.{◌≡◌, ℕ, ◌+◌, ◌-◌, ◌*◌, ◌≤◌, min, true, ◌&&◌, eqb, List, [], ◌∷◌, length, get_or, set, replicate, sym, refl, ap, ◌∙◌, subst, arith, length-set, eqb-true}
+use Rattle.std.proofs.Common.{◌≡◌, ℕ, ◌+◌, ◌-◌, ◌*◌, ◌≤◌, true, ◌&&◌, eqb, List, [], ◌∷◌, length, get_or, set, replicate, sym, refl, ap, ◌∙◌, subst, arith, length-set, eqb-true}
 use lib.Ieee.{Float, binary64, to_bits}
 use Rattle.loops.specs.Loop.{loop, turns}
 use Rattle.loops.specs.Cells.{ones}
@@ -20,14 +20,6 @@ use Rattle.prints.specs.Print.{print_of}
 use Rattle.vectors_maps.specs.Maps.{float_at, point_at, grid_of}
 use Rattle.vectors_maps.specs.Answers.{map_of, told, cut_of, Crescent, vertices_of, lens_of, three_loops, filled_of, Fill, Contact, Squares}
 use Rattle.vectors_maps.specs.declared.crescent.Removed.{Removed}
-use Rattle.vectors_maps.specs.declared.Judged.TheVariants.{Agrees, Differs, Bad}
-
--- the other two are not `Agrees`
-pub not_bad : {A : Type 0} → Bad ≡ Agrees → A
-not_bad h = let z : ◌≡◌ {A = ℕ} 0 1 = cc in absurd (let n : ⊥ = omega arith in n)
-
-pub not_differs : {A : Type 0} → Differs ≡ Agrees → A
-not_differs h = let z : ◌≡◌ {A = ℕ} 0 1 = cc in absurd (let n : ⊥ = omega arith in n)
 
 -- two numbers that are compared
 same-two : (a b x y : ℕ) → eqb a x && eqb b y ≡ true → (x ≡ a) × (y ≡ b)
@@ -50,9 +42,9 @@ squares_agree s m w nx ny h k em ew eh ek t =
 -- ---- contact
 
 pub contact_agrees : (s m : List ℕ) (nx ny b : ℕ) (g : Grid) (p : Vec2) (r a : Float) (c : counted.Contact) → m ≡ map_of s nx ny → g ≡ grid_of s nx ny → p ≡ point_at s 8
-    → r ≡ float_at s 10 → c ≡ rim_contact g m p r (get_or s 11 0) → a ≡ angle_of c → b ≡ to_bits binary64 a → b ≡ get_or s 12 0 → Contact s nx ny
+    → r ≡ float_at s 10 → c ≡ rim_contact g m p r (get_or s 11 0) → a ≡ angle_of c → b ≡ to_bits binary64 a → eqb b (get_or s 12 0) ≡ true → Contact s nx ny
 contact_agrees s m nx ny b g p r a c em eg ep er ec ea eb t =
-    record { angle = sym t ∙ eb ∙ ap (to_bits binary64) (ea ∙ ap angle_of (ec ∙ (λ i. rim_contact (eg i) (em i) (ep i) (er i) (get_or s 11 0)))) }
+    record { angle = sym (eqb-true b (get_or s 12 0) t) ∙ eb ∙ ap (to_bits binary64) (ea ∙ ap angle_of (ec ∙ (λ i. rim_contact (eg i) (em i) (ep i) (er i) (get_or s 11 0)))) }
 
 -- ---- a crescent
 
@@ -75,13 +67,16 @@ cut-is g n from to r m l m' l' m'' k a b d e ea eb em ed =
 
 pub crescent_agrees : (s m : List ℕ) (nx ny : ℕ) (g : Grid) (from to : Vec2) (r : Float) (d : Removed) → m ≡ map_of s nx ny → g ≡ grid_of s nx ny
     → from ≡ point_at s 8 → to ≡ point_at s 10 → r ≡ float_at s 12 → d ≡ cut_of g (ny * nx) from to r m (replicate 1024 0)
-    → eqb d.count (get_or s 13 0) && eqb d.log (get_or s 14 0) ≡ true → eqb d.after (get_or s 15 0) && eqb d.undone (get_or s 16 0) ≡ true → Crescent s nx ny
+    → ((eqb d.count (get_or s 13 0) && eqb d.log (get_or s 14 0)) && eqb d.after (get_or s 15 0)) && eqb d.undone (get_or s 16 0) ≡ true → Crescent s nx ny
 unfolding removed
-crescent_agrees s m nx ny g from to r d em eg ef et er ed t u =
-    let a = same-two d.count d.log (get_or s 13 0) (get_or s 14 0) t in
-    let b = same-two d.after d.undone (get_or s 15 0) (get_or s 16 0) u in
+crescent_agrees s m nx ny g from to r d em eg ef et er ed h =
+    let t = both ((eqb d.count (get_or s 13 0) && eqb d.log (get_or s 14 0)) && eqb d.after (get_or s 15 0)) (eqb d.undone (get_or s 16 0)) h in
+    let u = both (eqb d.count (get_or s 13 0) && eqb d.log (get_or s 14 0)) (eqb d.after (get_or s 15 0)) t.0 in
+    let a = same-two d.count d.log (get_or s 13 0) (get_or s 14 0) u.0 in
+    let after = sym (eqb-true d.after (get_or s 15 0) u.1) in
+    let undone = sym (eqb-true d.undone (get_or s 16 0) t.1) in
     record {
-      is = (λ i. removed (a.0 i) (a.1 i) (b.0 i) (b.1 i)) ∙ ed ∙ (λ i. cut_of (eg i) (ny * nx) (ef i) (et i) (er i) (em i) (replicate 1024 0));
+      is = (λ i. removed (a.0 i) (a.1 i) (after i) (undone i)) ∙ ed ∙ (λ i. cut_of (eg i) (ny * nx) (ef i) (et i) (er i) (em i) (replicate 1024 0));
     }
 
 -- ---- a region filled in
@@ -103,20 +98,12 @@ pub filled_is : (g : Grid) (vs : List Float) (v lens m m' : List ℕ) (z : List 
     → m' ≡ fill_region g (vertices_of v z) lens three_loops m
 filled_is g vs v lens m m' z e d = d ∙ ap (λ (w : List Float). fill_region g w lens three_loops m) e
 
--- of loops that are not too long, the lengths are those of the line
-lens_are : (s : List ℕ) (a b c : ℕ) → a ≡ min (get_or s 8 0) 25 → b ≡ min (get_or s 9 0) 25 → c ≡ min (get_or s 10 0) 25 → a + b + c ≤ 24 → a ∷ b ∷ c ∷ [] ≡ lens_of s
-lens_are s a b c ea eb ec h =
-    let pa : a ≡ get_or s 8 0 = omega arith in
-    let pb : b ≡ get_or s 9 0 = omega arith in
-    let pc : c ≡ get_or s 10 0 = omega arith in
-    λ i. pa i ∷ pb i ∷ pc i ∷ []
-
-pub fill_agrees : (s m m' : List ℕ) (last nx ny a b c n h : ℕ) (g : Grid) → m ≡ map_of s nx ny → g ≡ grid_of s nx ny → a ≡ min (get_or s 8 0) 25
-    → b ≡ min (get_or s 9 0) 25 → c ≡ min (get_or s 10 0) 25 → a + b + c ≤ 24 → m' ≡ fill_region g (vertices_of s (replicate 48 f0)) (a ∷ b ∷ c ∷ []) three_loops m
+pub fill_agrees : (s m m' : List ℕ) (last nx ny a b c n h : ℕ) (g : Grid) → m ≡ map_of s nx ny → g ≡ grid_of s nx ny → a ≡ get_or s 8 0
+    → b ≡ get_or s 9 0 → c ≡ get_or s 10 0 → m' ≡ fill_region g (vertices_of s (replicate 48 f0)) (a ∷ b ∷ c ∷ []) three_loops m
     → n ≡ ones m' → h ≡ print_of m' (ny * nx) → eqb n (get_or s (last - 1) 0) && eqb h (get_or s last 0) ≡ true → Fill s last nx ny
 unfolding filled_of
-fill_agrees s m m' last nx ny a b c n h g em eg ea eb ec k e en eh t =
-    let el = lens_are s a b c ea eb ec k in
+fill_agrees s m m' last nx ny a b c n h g em eg ea eb ec e en eh t =
+    let el : a ∷ b ∷ c ∷ [] ≡ lens_of s = λ i. ea i ∷ eb i ∷ ec i ∷ [] in
     let is : m' ≡ filled_of s nx ny = e ∙ (λ i. fill_region (eg i) (vertices_of s (replicate 48 f0)) (el i) three_loops (em i)) in
     let two = same-two n h (get_or s (last - 1) 0) (get_or s last 0) t in
     record { stock = two.0 ∙ en ∙ ap ones is; print = two.1 ∙ eh ∙ ap (λ (w : List ℕ). print_of w (ny * nx)) is }

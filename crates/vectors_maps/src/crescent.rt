@@ -1,15 +1,14 @@
 // A crescent: from, to and radius; then how many cells it clears, and the fingerprints of the log, of the
 // map after it, and of the map when it is undone.
-ghost use Rattle.std.specs.Prelude.{◌≡◌, ◌^◌, ◌≤◌, length};
+ghost use Rattle.std.specs.Prelude.{◌≡◌, ◌^◌, ◌≤◌, length, true, IfSome};
 ghost use Rattle.raster.specs.Grid.{Over};
 ghost use Rattle.vectors_maps.specs.Maps.{Small};
 ghost use Rattle.vectors_maps.specs.Answers.{cut_of, Crescent};
 
-use super::Judged;
 use super::maps::{grid, make, point};
 use bits::float;
 use geom::vec2::Vec2;
-use prints::{of_map, of_numbers};
+use prints::print;
 use raster::grid::Grid;
 use raster::log::{clear_disk_after_logged, undo};
 
@@ -28,10 +27,10 @@ fn cut(g: Grid, n: usize, from: Vec2, to: Vec2, r: f64, map: &mut [u8], log: &mu
     ensures { result ≡ cut_of g n from to r map.old log.old }
 {
     let count = clear_disk_after_logged(g, map, from, to, r, log, 0);
-    let cells = of_numbers(log, count);
-    let after = of_map(map, n);
-    undo(map, log, count);
-    let undone = of_map(map, n);
+    let cells = print(&log[..count]);
+    let after = print(&map[..n]);
+    undo(map, &log[..count]);
+    let undone = print(&map[..n]);
     Removed {
         count,
         log: cells,
@@ -40,12 +39,12 @@ fn cut(g: Grid, n: usize, from: Vec2, to: Vec2, r: f64, map: &mut [u8], log: &mu
     }
 }
 
-pub fn judged(s: &[u64; 64], last: usize, nx: usize, ny: usize) -> Judged
+pub fn judged(s: &[u64; 64], last: usize, nx: usize, ny: usize) -> Option<bool>
     requires { Small nx ny }
-    ensures { result ≡ Judged.Agrees → Crescent s.now nx ny }
+    ensures { IfSome result (λ agrees. agrees ≡ true → Crescent s.now nx ny) }
 {
     if last != 16 {
-        return Judged::Bad;
+        return None;
     }
     let mut map = [0u8; 1024];
     let mut log = [0u32; 1024];
@@ -61,11 +60,5 @@ pub fn judged(s: &[u64; 64], last: usize, nx: usize, ny: usize) -> Judged
         &mut map,
         &mut log,
     );
-    let count = c.count as u64;
-    if (count == s[13]) & (c.log == s[14]) {
-        if (c.after == s[15]) & (c.undone == s[16]) {
-            return Judged::Agrees;
-        }
-    }
-    Judged::Differs
+    Some((c.count as u64 == s[13]) & (c.log == s[14]) & (c.after == s[15]) & (c.undone == s[16]))
 }

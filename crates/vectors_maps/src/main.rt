@@ -12,89 +12,79 @@ mod print;
 mod squares;
 mod words;
 
-ghost use Rattle.std.specs.Prelude.{◌<◌, ◌≤◌, IfOk};
+ghost use Rattle.std.specs.Prelude.{◌<◌};
 ghost use Rattle.vectors_maps.specs.Maps.{Small};
 
+use maps::at_most;
 use std::io;
 use std::io::Read;
-use words::Line;
+use words::{Field, Line};
 
 #[derive(Clone, Copy)]
-pub enum Judged {
-    Agrees,
-    Differs,
-    Bad,
+enum Word {
+    Crescent,
+    Fill,
+    Contact,
+    Squares,
 }
 
-// The number of a word, whose letters have eight bits each; 4 for no word.
-fn number_of(word: u64) -> usize
-    ensures { result ≤ 4 }
-{
-    match word {
-        0x6372_6573_6365_6e74 => 0,
-        0x6669_6c6c => 1,
-        0x63_6f6e_7461_6374 => 2,
-        0x73_7175_6172_6573 => 3,
-        _ => 4,
+// The lines of a word that can be read, and those that agreed.
+#[derive(Clone, Copy)]
+struct Tally {
+    asked: u64,
+    agreed: u64,
+}
+
+// A word's letters have eight bits each.
+fn word_of(letters: u64) -> Option<Word> {
+    match letters {
+        0x6372_6573_6365_6e74 => Some(Word::Crescent),
+        0x6669_6c6c => Some(Word::Fill),
+        0x63_6f6e_7461_6374 => Some(Word::Contact),
+        0x73_7175_6172_6573 => Some(Word::Squares),
+        _ => None,
     }
 }
 
-fn by_word(f: usize, s: &[u64; 64], last: usize, nx: usize, ny: usize) -> Judged
+fn by_word(word: Word, s: &[u64; 64], last: usize, nx: usize, ny: usize) -> Option<bool>
     requires { Small nx ny }
 {
-    match f {
-        0 => crescent::judged(s, last, nx, ny),
-        1 => fill::judged(s, last, nx, ny),
-        2 => contact::judged(s, last, nx, ny),
-        3 => squares::judged(s, last, nx, ny),
-        _ => Judged::Bad,
+    match word {
+        Word::Crescent => crescent::judged(s, last, nx, ny),
+        Word::Fill => fill::judged(s, last, nx, ny),
+        Word::Contact => contact::judged(s, last, nx, ny),
+        Word::Squares => squares::judged(s, last, nx, ny),
     }
 }
 
-// A line that is read whole. The third number is the columns, the fourth the rows.
-fn of_line(f: usize, l: Line, s: &[u64; 64]) -> Judged
-    requires { l.at < 64 }
-{
-    let nx = maps::side(s[3]);
-    let ny = maps::side(s[4]);
+// A line's word and whether the answer is that of the definitions; None of a line that cannot be read or is out
+// of range. The third number is the columns, the fourth the rows.
+fn of_line(field: Option<Field>, s: &[u64; 64]) -> Option<(Word, bool)> {
+    let Field { at, empty } = field?;
+    if empty {
+        return None;
+    }
+    let word = word_of(s[0])?;
+    let nx = at_most(s[3], 32)?;
+    let ny = at_most(s[4], 32)?;
     if (nx == 0) | (ny == 0) {
-        return Judged::Bad;
+        return None;
     }
-    if l.bad | l.empty {
-        return Judged::Bad;
-    }
-    by_word(f, s, l.at, nx, ny)
+    Some((word, by_word(word, s, at, nx, ny)?))
 }
 
-fn say(rt: &impl Print, number: u64, what: &str) -> io::Result<()> {
-    println!(rt; "line {number} {what}")
-}
-
-// One more, at a place that exists.
-fn count(tally: &mut [u64; 8], k: usize) {
-    if k < 8 {
-        tally[k] = std::num::wrapping_add_u64(tally[k], 1);
+fn judge(rt: &impl Print, l: Line, s: &[u64; 64], tallies: &mut [Tally; 4]) -> io::Result<()> {
+    let Line { field, number } = l;
+    let Some((word, agrees)) = of_line(field, s) else {
+        return println!(rt; "line {number} bad");
+    };
+    let t = &mut tallies[word as usize];
+    t.asked = t.asked.wrapping_add(1);
+    if agrees {
+        t.agreed = t.agreed.wrapping_add(1);
+        return Ok(());
     }
-}
-
-// A whole line: the first four of the tally count the lines of a word, the others those that agreed.
-fn judge(rt: &impl Print, l: Line, s: &[u64; 64], tally: &mut [u64; 8]) -> io::Result<()>
-    requires { l.at < 64 }
-{
-    let f = number_of(s[0]);
-    let v = of_line(f, l, s);
-    match v {
-        Judged::Agrees => {
-            count(tally, f);
-            count(tally, f + 4);
-            Ok(())
-        }
-        Judged::Differs => {
-            count(tally, f);
-            say(rt, l.number, "differs")
-        }
-        Judged::Bad => { say(rt, l.number, "bad") }
-    }
+    println!(rt; "line {number} differs")
 }
 
 // One byte more of the input.
@@ -103,89 +93,70 @@ fn byte(
     c: u8,
     s: &mut [u64; 64],
     l: Line,
-    tally: &mut [u64; 8],
-) -> io::Result<Line>
-    requires { l.at < 64 }
-    ensures { IfOk result (λ r. r.at < 64) }
-{
+    tallies: &mut [Tally; 4],
+) -> io::Result<Line> {
+    let Line { field, number } = l;
     if c == b'\n' {
-        judge(rt, l, s, tally)?;
+        judge(rt, l, s, tallies)?;
         s[0] = 0;
-        return Ok(words::begin(std::num::wrapping_add_u64(l.number, 1)));
+        return Ok(words::begin(number.wrapping_add(1)));
     }
-    Ok(words::step(l, s, c))
+    let field = match field {
+        Some(f) => words::step(f, s, c),
+        None => None,
+    };
+    Ok(Line { field, number })
 }
 
-fn bytes(
-    rt: &impl Print,
-    read: &[u8],
-    s: &mut [u64; 64],
-    start: Line,
-    tally: &mut [u64; 8],
-) -> io::Result<Line>
-    requires { start.at < 64 }
-    ensures { IfOk result (λ r. r.at < 64) }
-{
-    let mut l = start;
-    for c in read {
-        l = byte(rt, *c, s, l, tally)?;
-    }
-    Ok(l)
-}
-
-#[derive(Clone, Copy)]
-struct Part {
-    line: Line,
-    more: bool,
-}
-
-// Reads once. Keeping the loop out of it keeps the buffer out of the loop's proof.
+// Reads once; None at the end of the input. Keeping the loop out of it keeps the buffer out of the loop's proof.
 fn some(
     rt: &impl Print,
     input: &mut impl Read,
     s: &mut [u64; 64],
-    l: Line,
-    tally: &mut [u64; 8],
-) -> io::Result<Part>
-    requires { l.at < 64 }
-    ensures { IfOk result (λ r. r.line.at < 64) }
-{
+    start: Line,
+    tallies: &mut [Tally; 4],
+) -> io::Result<Option<Line>> {
     let mut read = [0u8; 4096];
     let n = input.read(&mut read)?;
-    let line = bytes(rt, &read[..n], s, l, tally)?;
-    Ok(Part { line, more: 0 < n })
+    if n == 0 {
+        return Ok(None);
+    }
+    let mut l = start;
+    for &c in &read[..n] {
+        l = byte(rt, c, s, l, tallies)?;
+    }
+    Ok(Some(l))
 }
 
-// Reads to the end; what is left is the last line. The turns are counted, since nothing says that the input
-// ends.
-fn replay(rt: &(impl Input + Print), s: &mut [u64; 64], tally: &mut [u64; 8]) -> io::Result<Line>
-    ensures { IfOk result (λ r. r.at < 64) }
-{
+// Reads to the end. The turns are counted, since nothing says that the input ends.
+fn replay(rt: &(impl Input + Print), tallies: &mut [Tally; 4]) -> io::Result<()> {
     let mut input = rt.reader();
+    let mut s = [0u64; 64];
     let mut l = words::begin(1);
     for _ in 0..u64::MAX {
-        let part = some(rt, &mut input, s, l, tally)?;
-        l = part.line;
-        if !part.more {
+        let Some(next) = some(rt, &mut input, &mut s, l, tallies)? else {
             break;
-        }
+        };
+        l = next;
     }
-    Ok(l)
-}
-
-fn row(rt: &impl Print, name: &str, agreed: u64, asked: u64) -> io::Result<()> {
-    println!(rt; "{name}{agreed} of {asked}")
+    if words::is_begun(l) {
+        judge(rt, l, &s, tallies)?;
+    }
+    Ok(())
 }
 
 fn main(rt: HostRuntime) -> io::Result<()> {
-    let mut s = [0u64; 64];
-    let mut tally = [0u64; 8];
-    let l = replay(&rt, &mut s, &mut tally)?;
-    if (0 < l.at) | !l.empty {
-        judge(&rt, l, &s, &mut tally)?;
+    let mut tallies = [Tally {
+        asked: 0,
+        agreed: 0,
+    }; 4];
+    replay(&rt, &mut tallies)?;
+    for (name, t) in ["crescent", "fill", "contact", "squares"]
+        .iter()
+        .zip(&tallies)
+    {
+        let Tally { asked, agreed } = *t;
+        println!(&rt; "{name:<10}{agreed} of {asked}")?;
     }
-    row(&rt, "crescent  ", tally[4], tally[0])?;
-    row(&rt, "fill      ", tally[5], tally[1])?;
-    row(&rt, "contact   ", tally[6], tally[2])?;
-    row(&rt, "squares   ", tally[7], tally[3])
+    Ok(())
 }

@@ -1,5 +1,5 @@
 // The map and the grid that a line names: seed, share, columns and rows, then the corner and the cell.
-ghost use Rattle.std.specs.Prelude.{◌≡◌, ◌≤◌, length};
+ghost use Rattle.std.specs.Prelude.{◌≡◌, ◌<◌, ◌≤◌, length, MatchOption};
 ghost use Rattle.vectors_maps.specs.Maps.{made_of, grid_of, point_at};
 
 use bits::float;
@@ -7,11 +7,11 @@ use geom::vec2::Vec2;
 use prints::mix;
 use raster::grid::Grid;
 
-// Columns or rows: 0 where they are more than 32.
-pub fn side(n: u64) -> usize
-    ensures { result ≤ 32 }
+// A number of a line that may be at most so great.
+pub fn at_most(n: u64, most: u64) -> Option<usize>
+    ensures { MatchOption result (most < n) (λ k. (k ≡ n) × (k ≤ most)) }
 {
-    if n <= 32 { n as usize } else { 0 }
+    if n <= most { Some(n as usize) } else { None }
 }
 
 // The first n cells: x becomes 48271 x, by the remainder of 2^31 - 1, and a cell is stock where the last
@@ -21,6 +21,7 @@ pub fn make(seed: u64, share: u64, n: usize, map: &mut [u8])
     ensures { map.new ≡ made_of seed share n map.old }
 {
     let mut x = seed;
+    // By index: the proof with map[..n].iter_mut() did not close, since made_of is of the whole map.
     for k in 0..n {
         x = mix(x, 0);
         if x % 256 < share {

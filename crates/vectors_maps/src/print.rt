@@ -1,19 +1,19 @@
 // Fingerprints of distances.
-ghost use Rattle.std.specs.Prelude.{◌≡◌, ◌≤◌, length};
-ghost use Rattle.vectors_maps.specs.Print.{roots_of};
+ghost use Rattle.std.specs.Prelude.{◌≡◌};
+ghost use Rattle.prints.specs.Print.{printed};
+ghost use Rattle.vectors_maps.specs.Print.{root_bits};
 
 use bits::pattern;
 use distance::roots::distance_of;
 use prints::mix;
 
-// Of the distances that the first n squares stand for, as bit patterns.
-pub fn of_roots(s: &[u32], n: usize) -> u64
-    requires { n ≤ length s.now }
-    ensures { result ≡ roots_of s.now n }
+// Of the distances that squares stand for, as bit patterns.
+pub fn of_roots(squares: &[u32]) -> u64
+    ensures { result ≡ printed root_bits 1 squares.now }
 {
     let mut h = 1u64;
-    for k in 0..n {
-        h = mix(h, pattern(distance_of(s[k])));
+    for &q in squares {
+        h = mix(h, pattern(distance_of(q)));
     }
     h
 }

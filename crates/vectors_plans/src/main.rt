@@ -4,64 +4,49 @@
 
 ghost use Rattle.std.specs.Prelude.{◌≤◌, length};
 
-use entry::params::{AdaptiveParams, Setting};
-use planner::outcome::{Answer, adaptive_clear};
+use entry::params::AdaptiveParams;
+use planner::outcome::{Refusal, adaptive_clear};
+use prints::{Printed, print};
 use report::report::AdaptiveReport;
 use std::io;
 
-fn say(rt: &impl Print, n: u64) -> io::Result<()> {
+fn say<T: Printed>(rt: &impl Print, x: T) -> io::Result<()> {
+    let n = x.number();
     println!(rt; "{n}")
 }
 
-fn say_float(rt: &impl Print, x: f64) -> io::Result<()> {
-    say(rt, bits::pattern(x))
-}
-
-fn say_flag(rt: &impl Print, x: bool) -> io::Result<()> {
-    say(rt, if x { 1 } else { 0 })
-}
-
 fn say_counts(rt: &impl Print, r: AdaptiveReport) -> io::Result<()> {
-    say(rt, r.layers as u64)?;
-    say(rt, r.passes as u64)?;
-    say(rt, r.helix_entries as u64)?;
-    say(rt, r.retracts as u64)?;
-    say(rt, r.links as u64)?;
-    say(rt, r.starting_cells as u64)?;
-    say(rt, r.standing_cells as u64)?;
-    say(rt, r.helix_given_up as u64)?;
-    say_flag(rt, r.spent_budget)?;
-    say_flag(rt, r.left_reachable)
+    say(rt, r.layers)?;
+    say(rt, r.passes)?;
+    say(rt, r.helix_entries)?;
+    say(rt, r.retracts)?;
+    say(rt, r.links)?;
+    say(rt, r.starting_cells)?;
+    say(rt, r.standing_cells)?;
+    say(rt, r.helix_given_up)?;
+    say(rt, r.spent_budget)?;
+    say(rt, r.left_reachable)
 }
 
 fn say_areas(rt: &impl Print, r: AdaptiveReport) -> io::Result<()> {
-    say_float(rt, r.planned_max_engagement_deg)?;
-    say_float(rt, r.removed_area)?;
-    say_float(rt, r.remaining_reachable_area)?;
-    say_float(rt, r.unreachable_area)
+    say(rt, r.planned_max_engagement_deg)?;
+    say(rt, r.removed_area)?;
+    say(rt, r.remaining_reachable_area)?;
+    say(rt, r.unreachable_area)
 }
 
-fn say_answer(rt: &impl Print, a: Answer) -> io::Result<()> {
+fn say_answer(rt: &impl Print, a: Result<AdaptiveReport, Refusal>) -> io::Result<()> {
     match a {
-        Answer::Refused(n) => say(rt, n as u64),
-        Answer::Accepted(r) => {
-            say(rt, 0)?;
+        Err(refusal) => {
+            let n: u32 = refusal.into();
+            say(rt, n)
+        }
+        Ok(r) => {
+            say(rt, 0u32)?;
             say_counts(rt, r)?;
             say_areas(rt, r)
         }
     }
-}
-
-fn say_bytes(rt: &impl Print, b: &[u8]) -> io::Result<()> {
-    say(rt, prints::of_map(b, b.len()))
-}
-
-fn say_numbers(rt: &impl Print, s: &[u32]) -> io::Result<()> {
-    say(rt, prints::of_numbers(s, s.len()))
-}
-
-fn say_floats(rt: &impl Print, w: &[f64]) -> io::Result<()> {
-    say(rt, prints::of_floats(w, w.len()))
 }
 
 // Plans with so many numbers of rows and triples lent; the answer, and the fingerprint of each slice.
@@ -98,11 +83,11 @@ fn plan_in(
         &mut triples[0..t],
     );
     say_answer(rt, a)?;
-    say_bytes(rt, b)?;
-    say_numbers(rt, u)?;
-    say_floats(rt, w)?;
-    say_numbers(rt, rows)?;
-    say_floats(rt, triples)
+    say(rt, print(b))?;
+    say(rt, print(u))?;
+    say(rt, print(w))?;
+    say(rt, print(rows))?;
+    say(rt, print(triples))
 }
 
 fn plan(
@@ -156,9 +141,9 @@ fn params(keep_tool_down: bool) -> AdaptiveParams {
         plunge_feed: 300.0,
         link_feed: 1000.0,
         helix_ramp_deg: 2.0,
-        helix_radius: Setting::Absent,
-        chip_thinning_max: Setting::Absent,
-        resolution: Setting::Given(0.1),
+        helix_radius: None,
+        chip_thinning_max: None,
+        resolution: Some(0.1),
         keep_tool_down,
     }
 }

@@ -30,7 +30,7 @@ module _ (s : Setup) (vs : List Float) (lens b u : List ℕ) (w : List Float) (h
   wall-long = region-long 0 (cells_of s) w (record { start = omega arith; end = omega (arith, h.doubles) }) ∙ (let z : cells_of s - 0 ≡ cells_of s = omega arith in z)
 
   pub standing-walls : Walls s (wall_in s w) vs lens
-  standing-walls = record { over = record { sides = h.sides; long = omega (arith, wall-long) }; held = h.held; bound = h.bound }
+  standing-walls = record { over = record { sides = h.sides; long = omega (arith, wall-long) }; held = h.held }
 
   pub map-long : length (map_in (cells_of s) b) ≡ cells_of s
   map-long = run_long 0 (cells_of s) b (omega (arith, h.bytes))
@@ -67,7 +67,6 @@ module _ (s : Setup) (vs : List Float) (lens b u : List ℕ) (w : List Float) (h
       words = omega (arith, h.words, q);
       doubles = omega (arith, h.doubles, k.long);
       held = h.held;
-      bound = h.bound;
       tables = subst (Tables s) (sym tables-kept) h.tables;
     }
 

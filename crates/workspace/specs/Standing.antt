@@ -1,7 +1,6 @@
 -- The workspace between the steps of a plan: what stands in the lent slices from the set-up to the end, and what a step leaves of it. Definitions only.
 use Rattle.std.specs.Prelude.{ℕ, ◌+◌, ◌*◌, ◌≤◌, ◌≡◌, List, length, Float}
 use Rattle.loops.specs.Frame.{Only}
-use Rattle.numbers.specs.Bound.{Bounds}
 use Rattle.geom.specs.Region.{Held}
 use Rattle.raster.specs.Grid.{Sides}
 use Rattle.setup.specs.Layout.{run, put_run, allowed_in, traced_from, rim_from}
@@ -32,7 +31,6 @@ pub record Standing (s : Setup) (vs : List Float) (lens b u : List ℕ) (w : Lis
   pub words : 32 * cells_of s + 8192 ≤ length u
   pub doubles : 32 * cells_of s + 8192 ≤ length w
   pub held : Held vs lens s.region
-  pub bound : Bounds s.keep s.bound
   pub tables : Tables s (tables_in s w)
 
 -- ---- what a step leaves alone

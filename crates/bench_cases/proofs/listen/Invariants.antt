@@ -1,7 +1,6 @@
 -- `bench_cases::listen` meets its contract. The invariant: the bench is fit for its next line. Assumes nothing.
-use Rattle.std.proofs.Common.{◌≡◌, length}
 use Rattle.bench_lines.specs.Obey.{Fit}
 use Rattle.bench_cases.proofs.listen.Given as goal
 
 abbrev pub invariant-loop : goal.invariant-loop
-invariant-loop g l = Fit l.c.talk.bench l.map l.log × (length l.map ≡ length l.initial.map) × (length l.log ≡ length l.initial.log)
+invariant-loop g l = Fit l.c.talk.bench l.map l.log

@@ -2,5 +2,5 @@
 use Rattle.bench_talk.proofs.HearLaws.{hears_start}
 use Rattle.bench_talk.proofs.start.Goals as goal
 
-pub returns : goal.returns
-returns c = record { bench_value = c.start.ensures; by_index = hears_start _ _ c.start.ensures c.begin.ensures }
+pub returns-clause-by_index : goal.returns-clause-by_index
+returns-clause-by_index c = hears_start _ _ c.start.ensures c.begin.ensures

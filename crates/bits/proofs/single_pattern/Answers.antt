@@ -7,9 +7,6 @@ use lib.Ieee.Bits.{to_bits-lt}
 use Rattle.bits.proofs.FloatLaws.{no_nan, the_nan}
 use Rattle.bits.proofs.single_pattern.Goals as goal
 
-pub float_to_bits-result : goal.float_to_bits-result
-float_to_bits-result c = no_nan c.args.x c.if-x.true
-
 pub overflow_cast-result : goal.overflow_cast-result
 overflow_cast-result c = omega (arith, to_bits-lt binary32 c.args.x (subst T (sym c.well_formed.0.1) tt))
 

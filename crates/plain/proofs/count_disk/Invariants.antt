@@ -1,9 +1,9 @@
--- `plain::count_disk` meets its contract. The invariant: the count is what the rows so far leave, and no more than they have cells. Assumes nothing.
-use Prim.Native.Nat.{◌-◌, ◌≤◌, ◌+◌, ◌*◌}
+-- `plain::count_disk` meets its contract. The invariant: the count is what the rows so far leave, and no more is counted than cells before the row. Assumes nothing.
+use Prim.Native.Nat.{◌+◌, ◌*◌, ◌≤◌}
 use Rattle.loops.proofs.LoopLaws.{Going}
 use Rattle.raster.specs.Sweep.{disk_at}
 use Rattle.raster.specs.Stock.{tally}
 use Rattle.plain.proofs.count_disk.Given as goal
 
 abbrev pub invariant-loop-j : goal.invariant-loop-j
-invariant-loop-j l = Going (disk_at (tally l.map) l.g l.c l.r) l.first (l.last + 1) 0 l.n l.j × (l.n ≤ l.j * l.nx)
+invariant-loop-j l = Going (disk_at (tally l.map) l.g l.c l.r) l.first (l.last + 1) 0 l.n l.j × (l.n ≤ l.j * l.g.nx)

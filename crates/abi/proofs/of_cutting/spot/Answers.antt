@@ -1,11 +1,15 @@
 -- `abi::of_cutting::spot` meets its contract. Assumes nothing.
+use mathlib.Core.Path.{◌≡◌, refl, ◌∙◌}
+use Rattle.std.specs.Prelude.{None, Some, unwrap_or}
+use Rattle.geom.specs.Vec.{v2, f0}
+use Rattle.passes.specs.Start.{Place}
 use Rattle.abi.specs.Cutting.{spot_of}
 use Rattle.abi.proofs.of_cutting.spot.Goals as goal
 
-pub returns-in-At : goal.returns-in-At
+spot-is : (p : Place) → unwrap_or p (v2 f0 f0) ≡ spot_of p
 unfolding spot_of
-returns-in-At c = rw c.in-At.is
+spot-is None = refl
+spot-is (Some p) = refl
 
-pub returns-in-Nowhere : goal.returns-in-Nowhere
-unfolding spot_of
-returns-in-Nowhere c = rw c.in-Nowhere.is
+pub returns : goal.returns
+returns c = c.unwrap_or.ensures ∙ spot-is _

@@ -4,7 +4,7 @@ use Rattle.abi.proofs.PathLaws.{fitted_of, path_by, cells_of}
 use Rattle.abi.proofs.of_links.links_link_path.Goals as goal
 
 pub link_path-requires : goal.link_path-requires
-link_path-requires c = let m = c.made-s.ensures in record { fitted = fitted_of _ _ _ _ _ _ m.0 m.1 _ _ _ _ c.requires.fitted; over = over-grid _ _ _ _ _ _ m.0 _ c.requires.over; s_in_bounds = cells_of _ _ _ _ _ _ m.0 m.1 _ c.requires.nx_in_bounds }
+link_path-requires c = let m = c.made-s.ensures in record { fitted = fitted_of _ _ _ _ _ _ m.0 m.1 _ _ _ _ c.requires.fitted; over = over-grid _ _ _ _ _ _ m.0 m.1 _ c.requires.over; s_in_bounds = cells_of _ _ _ _ _ _ m.0 m.1 _ c.requires.nx_in_bounds }
 
 pub put_route-requires : goal.put_route-requires
 put_route-requires c = c.requires.in_bounds

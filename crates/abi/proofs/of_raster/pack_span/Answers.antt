@@ -2,10 +2,10 @@
 use Rattle.abi.specs.Raster.{packed_span}
 use Rattle.abi.proofs.of_raster.pack_span.Goals as goal
 
-pub returns-in-Empty : goal.returns-in-Empty
+pub returns-in-None : goal.returns-in-None
 unfolding packed_span
-returns-in-Empty c = rw c.in-Empty.is
+returns-in-None c = rw c.in-None.is
 
-pub returns-in-Cols : goal.returns-in-Cols
+pub returns-in-Some : goal.returns-in-Some
 unfolding packed_span
-returns-in-Cols c = rw c.in-Cols.is
+returns-in-Some c = rw c.in-Some.is

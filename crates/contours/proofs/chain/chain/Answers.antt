@@ -14,7 +14,7 @@ use Rattle.contours.specs.Chain.{edge_point, Chaining}
 use Rattle.contours.proofs.EdgeLaws.{edge-below}
 use Rattle.contours.proofs.FollowLaws.{Following, following_none, following_more, out_open, out-closed, out-used, point-room, first-room}
 use Rattle.contours.proofs.chain.chain.Goals as goal
-use Rattle.contours.proofs.chain.chain.Goals.{After-next_of-n, At-loop-g, Else-is_nothing, Else-is_used, Else-same_edge, Start, Then-is_nothing, Then-is_used, Then-same_edge}
+use Rattle.contours.proofs.chain.chain.Goals.{After-next_of-n, At-loop-g, Else-eq, Else-is_used, Else-eq-2, Start, Then-eq, Then-is_used, Then-eq-2}
 
 -- an edge of the grid has its place in the tables
 below : (g : Grid) (next marks : List ℕ) (pts : List Float) (first s n : ℕ) → Sides g → Chaining g next marks pts first s → Between g (edge n) → n < length marks
@@ -47,17 +47,17 @@ wide : (c : Start) → 2 * length c.args.marks.now ≤ length c.args.pts.now
 wide c = omega (arith, c.requires.chaining.marks-long, c.requires.chaining.pts-long)
 
 -- what the tests say of it
-is_none : (c : Then-is_nothing) → n-at c.args.next.now c.loop-g.cur.0 ≡ nothing
-is_none c = sym ((let told : c.next_of-n.result.0 ≡ n-at c.args.next.now c.loop-g.cur.0 = ap (λ (e : EdgeNo). e.0) c.next_of-n.ensures in told)) ∙ eqb-true _ _ (sym c.is_nothing.ensures ∙ c.if-is_nothing.true)
+is_none : (c : Then-eq) → n-at c.args.next.now c.loop-g.cur.0 ≡ nothing
+is_none c = sym ((let told : c.next_of-n.result.0 ≡ n-at c.args.next.now c.loop-g.cur.0 = ap (λ (e : EdgeNo). e.0) c.next_of-n.ensures in told)) ∙ eqb-true _ _ (sym c.eq.ensures ∙ c.if-eq.true)
 
-not_none : (c : Else-is_nothing) → n-at c.args.next.now c.loop-g.cur.0 ≡ nothing → ⊥
-not_none c z = eqb-false _ _ (sym c.is_nothing.ensures ∙ c.if-is_nothing.false) ((let told : c.next_of-n.result.0 ≡ n-at c.args.next.now c.loop-g.cur.0 = ap (λ (e : EdgeNo). e.0) c.next_of-n.ensures in told) ∙ z)
+not_none : (c : Else-eq) → n-at c.args.next.now c.loop-g.cur.0 ≡ nothing → ⊥
+not_none c z = eqb-false _ _ (sym c.eq.ensures ∙ c.if-eq.false) ((let told : c.next_of-n.result.0 ≡ n-at c.args.next.now c.loop-g.cur.0 = ap (λ (e : EdgeNo). e.0) c.next_of-n.ensures in told) ∙ z)
 
-is-first : (c : Then-same_edge) → n-at c.args.next.now c.loop-g.cur.0 ≡ c.args.s.0
-is-first c = sym ((let told : c.next_of-n.result.0 ≡ n-at c.args.next.now c.loop-g.cur.0 = ap (λ (e : EdgeNo). e.0) c.next_of-n.ensures in told)) ∙ eqb-true _ _ (sym c.same_edge.ensures ∙ c.if-same_edge.true)
+is-first : (c : Then-eq-2) → n-at c.args.next.now c.loop-g.cur.0 ≡ c.args.s.0
+is-first c = sym ((let told : c.next_of-n.result.0 ≡ n-at c.args.next.now c.loop-g.cur.0 = ap (λ (e : EdgeNo). e.0) c.next_of-n.ensures in told)) ∙ eqb-true _ _ (sym c.eq-in-loop-g.ensures ∙ c.if-eq-2.true)
 
-not_first : (c : Else-same_edge) → n-at c.args.next.now c.loop-g.cur.0 ≡ c.args.s.0 → ⊥
-not_first c z = eqb-false _ _ (sym c.same_edge.ensures ∙ c.if-same_edge.false) ((let told : c.next_of-n.result.0 ≡ n-at c.args.next.now c.loop-g.cur.0 = ap (λ (e : EdgeNo). e.0) c.next_of-n.ensures in told) ∙ z)
+not_first : (c : Else-eq-2) → n-at c.args.next.now c.loop-g.cur.0 ≡ c.args.s.0 → ⊥
+not_first c z = eqb-false _ _ (sym c.eq-in-loop-g.ensures ∙ c.if-eq-2.false) ((let told : c.next_of-n.result.0 ≡ n-at c.args.next.now c.loop-g.cur.0 = ap (λ (e : EdgeNo). e.0) c.next_of-n.ensures in told) ∙ z)
 
 used : (c : Then-is_used) → get_or c.loop-g.marks (n-at c.args.next.now c.loop-g.cur.0) 0 ≡ 1
 used c = ap (λ (k : ℕ). get_or c.loop-g.marks k 0) (sym ((let told : c.next_of-n.result.0 ≡ n-at c.args.next.now c.loop-g.cur.0 = ap (λ (e : EdgeNo). e.0) c.next_of-n.ensures in told))) ∙ eqb-true _ _ (sym c.is_used.ensures ∙ c.if-is_used.true)
@@ -67,9 +67,6 @@ fresh c z = eqb-false _ _ (sym c.is_used.ensures ∙ c.if-is_used.false) (ap (λ
 
 pub use_edge-requires : goal.use_edge-requires
 use_edge-requires c = below _ _ _ _ _ _ _ c.requires.over.sides c.requires.chaining c.requires.chaining.start
-
-pub crossing-p-requires : goal.crossing-p-requires
-crossing-p-requires c = record { over = c.requires.over; between = c.requires.chaining.start }
 
 pub put-requires : goal.put-requires
 put-requires c = let p = c.requires.chaining in
@@ -84,49 +81,31 @@ loop-g-init c = record {
 pub next_of-n-requires : goal.next_of-n-requires
 next_of-n-requires c = let p = c.requires.chaining in omega (arith, (follows (goal.at.next_of-n-requires c).At-loop-g).walked.here, p.next-long, p.marks-long)
 
-pub shape_of-marks-then-is_nothing : goal.shape_of-marks-then-is_nothing
-shape_of-marks-then-is_nothing c = (follows (goal.at.shape_of-marks-then-is_nothing c).At-loop-g).walked.long
+pub returns-then-eq : goal.returns-then-eq
+returns-then-eq c = out_open _ _ _ _ _ _ c.requires.chaining.room _ _ _ _ (follows (goal.at.returns-then-eq c).At-loop-g) (is_none (goal.at.returns-then-eq c).Then-eq)
 
-pub shape_of-pts-then-is_nothing : goal.shape_of-pts-then-is_nothing
-shape_of-pts-then-is_nothing c = (follows (goal.at.shape_of-pts-then-is_nothing c).At-loop-g).long
-
-pub returns-then-is_nothing : goal.returns-then-is_nothing
-returns-then-is_nothing c = out_open _ _ _ _ _ _ c.requires.chaining.room _ _ _ _ (follows (goal.at.returns-then-is_nothing c).At-loop-g) (is_none (goal.at.returns-then-is_nothing c).Then-is_nothing)
-
-pub shape_of-marks-then-same_edge : goal.shape_of-marks-then-same_edge
-shape_of-marks-then-same_edge c = (follows (goal.at.shape_of-marks-then-same_edge c).At-loop-g).walked.long
-
-pub shape_of-pts-then-same_edge : goal.shape_of-pts-then-same_edge
-shape_of-pts-then-same_edge c = (follows (goal.at.shape_of-pts-then-same_edge c).At-loop-g).long
-
-pub returns-then-same_edge : goal.returns-then-same_edge
-returns-then-same_edge c = out-closed _ _ _ _ _ _ c.requires.chaining.room _ _ _ _ (follows (goal.at.returns-then-same_edge c).At-loop-g) (not_none (goal.at.returns-then-same_edge c).Else-is_nothing) (is-first (goal.at.returns-then-same_edge c).Then-same_edge)
+pub returns-then-eq-2 : goal.returns-then-eq-2
+returns-then-eq-2 c = out-closed _ _ _ _ _ _ c.requires.chaining.room _ _ _ _ (follows (goal.at.returns-then-eq-2 c).At-loop-g) (not_none (goal.at.returns-then-eq-2 c).Else-eq) (is-first (goal.at.returns-then-eq-2 c).Then-eq-2)
 
 pub is_used-requires : goal.is_used-requires
-is_used-requires c = omega (arith, placed (goal.at.is_used-requires c).At-loop-g (not_none (goal.at.is_used-requires c).Else-is_nothing), (follows (goal.at.is_used-requires c).At-loop-g).walked.long, n_is (goal.at.is_used-requires c).After-next_of-n)
-
-pub shape_of-marks-then-is_used : goal.shape_of-marks-then-is_used
-shape_of-marks-then-is_used c = (follows (goal.at.shape_of-marks-then-is_used c).At-loop-g).walked.long
-
-pub shape_of-pts-then-is_used : goal.shape_of-pts-then-is_used
-shape_of-pts-then-is_used c = (follows (goal.at.shape_of-pts-then-is_used c).At-loop-g).long
+is_used-requires c = omega (arith, placed (goal.at.is_used-requires c).At-loop-g (not_none (goal.at.is_used-requires c).Else-eq), (follows (goal.at.is_used-requires c).At-loop-g).walked.long, n_is (goal.at.is_used-requires c).After-next_of-n)
 
 pub returns-then-is_used : goal.returns-then-is_used
-returns-then-is_used c = out-used _ _ _ _ _ _ c.requires.chaining.room _ _ _ _ (follows (goal.at.returns-then-is_used c).At-loop-g) (not_none (goal.at.returns-then-is_used c).Else-is_nothing) (not_first (goal.at.returns-then-is_used c).Else-same_edge) (used (goal.at.returns-then-is_used c).Then-is_used)
+returns-then-is_used c = out-used _ _ _ _ _ _ c.requires.chaining.room _ _ _ _ (follows (goal.at.returns-then-is_used c).At-loop-g) (not_none (goal.at.returns-then-is_used c).Else-eq) (not_first (goal.at.returns-then-is_used c).Else-eq-2) (used (goal.at.returns-then-is_used c).Then-is_used)
 
 pub use_edge-requires-in-loop-g : goal.use_edge-requires-in-loop-g
-use_edge-requires-in-loop-g c = omega (arith, placed (goal.at.use_edge-requires-in-loop-g c).At-loop-g (not_none (goal.at.use_edge-requires-in-loop-g c).Else-is_nothing), (follows (goal.at.use_edge-requires-in-loop-g c).At-loop-g).walked.long, n_is (goal.at.use_edge-requires-in-loop-g c).After-next_of-n)
+use_edge-requires-in-loop-g c = omega (arith, placed (goal.at.use_edge-requires-in-loop-g c).At-loop-g (not_none (goal.at.use_edge-requires-in-loop-g c).Else-eq), (follows (goal.at.use_edge-requires-in-loop-g c).At-loop-g).walked.long, n_is (goal.at.use_edge-requires-in-loop-g c).After-next_of-n)
 
 pub crossing-requires : goal.crossing-requires
-crossing-requires c = record { over = c.requires.over; between = subst (Between c.args.g) (sym c.next_of-n.ensures) (leads (goal.at.crossing-requires c).At-loop-g (not_none (goal.at.crossing-requires c).Else-is_nothing)) }
+crossing-requires c = record { over = c.requires.over; between = subst (Between c.args.g) (sym c.next_of-n.ensures) (leads (goal.at.crossing-requires c).At-loop-g (not_none (goal.at.crossing-requires c).Else-eq)) }
 
 pub extend-t-requires : goal.extend-t-requires
-extend-t-requires c = point-room _ _ _ _ _ _ c.requires.chaining.room _ _ _ _ _ (follows (goal.at.extend-t-requires c).At-loop-g) (placed (goal.at.extend-t-requires c).At-loop-g (not_none (goal.at.extend-t-requires c).Else-is_nothing)) (fresh (goal.at.extend-t-requires c).Else-is_used) (wide (goal.at.extend-t-requires c).Start)
+extend-t-requires c = point-room _ _ _ _ _ _ c.requires.chaining.room _ _ _ _ _ (follows (goal.at.extend-t-requires c).At-loop-g) (placed (goal.at.extend-t-requires c).At-loop-g (not_none (goal.at.extend-t-requires c).Else-eq)) (fresh (goal.at.extend-t-requires c).Else-is_used) (wide (goal.at.extend-t-requires c).Start)
 
 pub loop-g-smaller : goal.loop-g-smaller
 loop-g-smaller c = let m = c.loop-g.marks in
     let n = get_or c.args.next.now c.loop-g.cur.0 0 in
-    let b = placed (goal.at.loop-g-smaller c).At-loop-g (not_none (goal.at.loop-g-smaller c).Else-is_nothing) in
+    let b = placed (goal.at.loop-g-smaller c).At-loop-g (not_none (goal.at.loop-g-smaller c).Else-eq) in
     let w = (follows (goal.at.loop-g-smaller c).At-loop-g).walked.long in
     let u = ap ones (c.use_edge-in-loop-g.ensures ∙ ap (λ (k : ℕ). set m k 1) (n_is (goal.at.loop-g-smaller c).After-next_of-n)) in
     let o = ap length c.use_edge.ensures in
@@ -140,6 +119,6 @@ loop-g-preserved c = let a = c.args in
           let n = length-set m a.s.0 1 in
           let o = length-set a.marks.now a.s.0 1 in
           rw (x.1, x.0, c.crossing.ensures, c.use_edge-in-loop-g.ensures, c.next_of-n.ensures)
-          (following_more _ _ m w _ _ h.room _ _ _ _ _ (c.loop-g.invariant.following m w h b d e) refl (not_none (goal.at.loop-g-preserved c).Else-is_nothing) (not_first (goal.at.loop-g-preserved c).Else-same_edge) (fresh (goal.at.loop-g-preserved c).Else-is_used)
-          (omega (arith, placed (goal.at.loop-g-preserved c).At-loop-g (not_none (goal.at.loop-g-preserved c).Else-is_nothing), ap length d, ap length c.use_edge.ensures)) (omega (arith, h.marks-long, h.pts-long)));
+          (following_more _ _ m w _ _ h.room _ _ _ _ _ (c.loop-g.invariant.following m w h b d e) refl (not_none (goal.at.loop-g-preserved c).Else-eq) (not_first (goal.at.loop-g-preserved c).Else-eq-2) (fresh (goal.at.loop-g-preserved c).Else-is_used)
+          (omega (arith, placed (goal.at.loop-g-preserved c).At-loop-g (not_none (goal.at.loop-g-preserved c).Else-eq), ap length d, ap length c.use_edge.ensures)) (omega (arith, h.marks-long, h.pts-long)));
     }

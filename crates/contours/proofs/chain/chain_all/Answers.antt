@@ -26,20 +26,8 @@ placed c =
 pub loop-k-init : goal.loop-k-init
 loop-k-init c = (tour_none _ _ _ _ _ _ _ _ _ refl c.requires.tracing, omega arith)
 
-pub overflow_mul-k : goal.overflow_mul-k
-overflow_mul-k c = omega (arith, (placed (goal.at.overflow_mul-k c).In-loop-k).0, (placed (goal.at.overflow_mul-k c).In-loop-k).2)
-
-pub edge_at-s-requires : goal.edge_at-s-requires
-edge_at-s-requires c = let h = placed (goal.at.edge_at-s-requires c).In-loop-k in omega (arith, h.0, h.1)
-
 pub start_at-c-requires : goal.start_at-c-requires
 start_at-c-requires c = record { over = c.requires.over; tracing = c.loop-k.invariant.0.tracing; between = subst (Between c.args.g) (sym c.edge_at-s.ensures) (joins (goal.at.start_at-c-requires c).In-loop-k).from }
-
-pub overflow_step-k : goal.overflow_step-k
-overflow_step-k c = let h = placed (goal.at.overflow_step-k c).In-loop-k in omega (arith, h.0, h.2)
-
-pub loop-k-smaller : goal.loop-k-smaller
-loop-k-smaller c = omega (arith, c.loop-k-test.true)
 
 pub loop-k-preserved : goal.loop-k-preserved
 loop-k-preserved c = let l = c.loop-k in
@@ -49,20 +37,3 @@ loop-k-preserved c = let l = c.loop-k in
           (ap (λ (e : EdgeNo). e.0) c.edge_at-s.ensures ∙ sym (ap (λ (s : Segment). s.from.0) (segment-read a.n l.k a.words.now l.words l.invariant.0.segments_kept h.0))) _ _ _ _ c.start_at-c.ensures,
       omega (arith, c.loop-k-test.true),
     )
-
-pub shape_of-words : goal.shape_of-words
-shape_of-words c = c.loop-k.invariant.0.words_long
-
-pub shape_of-marks : goal.shape_of-marks
-shape_of-marks c = c.loop-k.invariant.0.tracing.marks-long ∙ sym c.requires.tracing.marks-long
-
-pub shape_of-pts : goal.shape_of-pts
-shape_of-pts c = c.loop-k.invariant.0.pts-long
-
-pub returns : goal.returns
-returns c = let l = c.loop-k in
-    let a = c.args in
-    subst
-    (λ (k : ℕ). Traced a.g a.n (toured (edge_point a.g a.f.now a.level) a.g a.n a.first a.words.now a.pts.now (chains a.marks.now (pieces_in a.n a.so a.words.now a.pts.now)) k) a.words.now a.pts.now l.words l.marks l.pts l.c)
-    (let z : l.k ≡ a.m = omega (arith, l.invariant.1, c.loop-k-test.false) in z)
-    l.invariant.0

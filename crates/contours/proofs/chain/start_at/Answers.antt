@@ -8,13 +8,10 @@ use Rattle.contours.proofs.chain.start_at.Goals.{After-starts}
 
 -- whether a chain starts at the edge's mark
 starts-here : (c : After-starts) → let a = c.args in c.starts.result ≡ starts_at a.first (get_or a.marks.now a.s.0 0)
-starts-here c = let a = c.args in c.starts.ensures ∙ ap (λ (k : ℕ). starts_at a.first (get_or a.marks.now k 0)) c.index_of_edge.ensures
+starts-here c = let a = c.args in c.starts.ensures ∙ ap (λ (k : ℕ). starts_at a.first (get_or a.marks.now k 0)) c.from.ensures
 
-pub bounds-marks-index_of_edge : goal.bounds-marks-index_of_edge
-bounds-marks-index_of_edge c = omega (arith, edge-below _ _ c.requires.over.sides c.requires.between, c.requires.tracing.cells, c.requires.tracing.marks-long, c.index_of_edge.ensures)
-
-pub take_up-requires : goal.take_up-requires
-take_up-requires c = let a = c.args in record { over = c.requires.over; tracing = c.requires.tracing; startable = record { start = c.requires.between; unused = unused-start a.first (get_or a.marks.now a.s.0 0) (sym (starts-here (goal.at.take_up-requires c).After-starts) ∙ c.if-starts.true) } }
+pub bounds-marks-from : goal.bounds-marks-from
+bounds-marks-from c = omega (arith, edge-below _ _ c.requires.over.sides c.requires.between, c.requires.tracing.cells, c.requires.tracing.marks-long, c.from.ensures)
 
 pub returns-then-starts : goal.returns-then-starts
 returns-then-starts c = let a = c.args in

@@ -25,10 +25,6 @@ pub put_row-requires : goal.put_row-requires
 unfolding within
 put_row-requires c = rw (c.rows_at-rows.ensures, c.words_end-end.ensures) (row_room _ _ _ _ _ _ c.requires.tracing _ _ _ _ _ _ (followed_there _ _ _ _ _ _ _ _ _ _ _ _ _ c.next_at-next.ensures c.rows_at-rows.ensures c.chain-k.ensures) c.if-kept-lt2.false)
 
-pub overflow_add-result : goal.overflow_add-result
-unfolding within
-overflow_add-result c = omega (arith, c.requires.over.sides.cells, c.requires.tracing.cells, c.requires.tracing.pairs, points-few _ _ _ _ _ _ c.requires.tracing _ _ _ _ _ _ (followed_there _ _ _ _ _ _ _ _ _ _ _ _ _ c.next_at-next.ensures c.rows_at-rows.ensures c.chain-k.ensures))
-
 pub overflow_add-result-2 : goal.overflow_add-result-2
 unfolding within
 overflow_add-result-2 c = omega (arith, c.requires.over.sides.cells, c.requires.tracing.cells, c.requires.tracing.pairs, points-few _ _ _ _ _ _ c.requires.tracing _ _ _ _ _ _ (followed_there _ _ _ _ _ _ _ _ _ _ _ _ _ c.next_at-next.ensures c.rows_at-rows.ensures c.chain-k.ensures))

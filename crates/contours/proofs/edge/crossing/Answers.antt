@@ -6,8 +6,5 @@ use Rattle.contours.proofs.edge.crossing.Goals as goal
 pub bounds-f-index_of : goal.bounds-f-index_of
 bounds-f-index_of c = cell-within _ _ _ c.requires.over c.requires.between _ c.lower_cell-c.ensures _ c.index_of.ensures
 
-pub far_center-requires : goal.far_center-requires
-far_center-requires c = few-columns _ _ _ c.requires.over c.requires.between _ c.lower_cell-c.ensures _ _ c.column_of-i.ensures c.row_of-j.ensures
-
 pub returns : goal.returns
 returns c = crossing_is _ _ _ _ _ _ _ _ _ _ _ _ _ _ _ _ c.lower_cell-c.ensures c.column_of-i.ensures c.row_of-j.ensures c.index_of.ensures c.f32_to_f64_with_nan-fa.ensures (c.index_of-2.ensures ∙ c.far_cell.ensures) c.f32_to_f64_with_nan-fb.ensures c.f32_to_f64_with_nan.ensures c.along-t.ensures c.center.ensures c.far_center.ensures c.lerp.ensures

@@ -5,27 +5,15 @@ use Rattle.loops.proofs.LoopLaws.{going_none, going_more, going_end}
 use Rattle.contours.specs.March.{segments_of, march}
 use Rattle.contours.proofs.march.march.Goals as goal
 
-pub overflow_sub-j-end : goal.overflow_sub-j-end
-overflow_sub-j-end c = c.requires.over.sides.high
-
 pub loop-j-init : goal.loop-j-init
 unfolding segments_of
 loop-j-init c = (going_none _ _ _ _, omega arith, refl)
-
-pub march_row-n-requires : goal.march_row-n-requires
-march_row-n-requires c = let l = c.loop-j in
-    let t = c.loop-j-test.true in
-    let g = c.args.g in
-    let r : l.j * g.nx + g.nx ≤ g.ny * g.nx = row_below l.j g.ny g.nx _ (omega (arith, t)) (le_refl _) in record { over = c.requires.over; j_bound = omega (arith, t); nx_in_bounds = omega (arith, r, l.invariant.1, l.invariant.2, c.requires.nx_in_bounds) }
 
 pub loop-j-preserved : goal.loop-j-preserved
 loop-j-preserved c = let l = c.loop-j in
     let e = c.march_row-n.ensures in
     let g = c.args.g in
     (going_more _ _ _ _ _ _ _ l.invariant.0 c.loop-j-test.true e.is, omega (arith, e.few, l.invariant.1, add-mul l.j 1 g.nx), e.long ∙ l.invariant.2)
-
-pub shape_of-segs : goal.shape_of-segs
-shape_of-segs c = c.loop-j.invariant.2
 
 pub returns : goal.returns
 unfolding march

@@ -5,30 +5,14 @@ use Rattle.contours.specs.March.{march_row}
 use Rattle.contours.specs.Quiet.{march_run}
 use Rattle.contours.proofs.march.march_row.Goals as goal
 
-pub overflow_sub-last : goal.overflow_sub-last
-overflow_sub-last c = c.requires.over.sides.wide
-
 pub loop-a-init : goal.loop-a-init
 loop-a-init c = (loop-none _ _ _, omega arith, omega arith, refl)
-
-pub run_end-e-requires : goal.run_end-e-requires
-run_end-e-requires c = c.loop-a-test.true
-
-pub march_run-m-requires : goal.march_run-m-requires
-march_run-m-requires c = let e = c.run_end-e.ensures in
-    let v = c.loop-a.invariant in record { over = c.requires.over; in_row = record { order = omega (arith, e.0); column = omega (arith, e.1, c.requires.over.sides.wide); row = c.requires.j_bound }; a_in_bounds = omega (arith, e.0, e.1, v.2, v.3, c.requires.nx_in_bounds) }
-
-pub loop-a-smaller : goal.loop-a-smaller
-loop-a-smaller c = let e = c.run_end-e.ensures in omega (arith, e.0, e.1)
 
 pub loop-a-preserved : goal.loop-a-preserved
 loop-a-preserved c = let v = c.loop-a.invariant in
     let r = c.march_run-m.ensures in
     let e = c.run_end-e.ensures in
     (r.is ∙ ap (march_run _ _ _ _ _ _) v.0 ∙ sym (loop_split _ 0 _ _ _ (omega arith) (omega (arith, e.0))), e.1, omega (arith, r.few, v.2, e.0), r.long ∙ v.3)
-
-pub shape_of-segs : goal.shape_of-segs
-shape_of-segs c = c.loop-a.invariant.3
 
 pub returns : goal.returns
 unfolding march_row

@@ -1,7 +1,6 @@
 -- `cutting::listing::greatest` meets its contract. Assumes nothing.
-use Prim.Native.Nat.{◌-◌}
 use native.Mathlib.Omega.{arith}
-use Rattle.cutting.proofs.RefusalLaws.{greatest_none, greatest_more, greatest_end}
+use Rattle.cutting.proofs.RoomLaws.{greatest_none, greatest_more, greatest_end}
 use Rattle.cutting.proofs.listing.greatest.Goals as goal
 
 pub loop-k-init : goal.loop-k-init

@@ -1,6 +1,5 @@
 -- `cutting::listing::greatest` meets its contract. Assumes nothing.
-use Prim.Native.Nat.{◌-◌}
-use Rattle.cutting.proofs.RefusalLaws.{Greatest}
+use Rattle.cutting.proofs.RoomLaws.{Greatest}
 use Rattle.cutting.proofs.listing.greatest.Given as goal
 
 abbrev pub invariant-loop-k : goal.invariant-loop-k

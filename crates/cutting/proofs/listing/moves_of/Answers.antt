@@ -3,8 +3,8 @@ use mathlib.Core.Path.{sym}
 use Rattle.cutting.proofs.ListingLaws.{along_moves, lost_moves}
 use Rattle.cutting.proofs.listing.moves_of.Goals as goal
 
-pub returns-in-Along : goal.returns-in-Along
-returns-in-Along c = sym (along_moves _ _ _ c.in-Along.is)
+pub returns-in-Some : goal.returns-in-Some
+returns-in-Some c = sym (along_moves _ _ c.in-Some.is)
 
-pub returns-in-Lost : goal.returns-in-Lost
-returns-in-Lost c = sym (lost_moves _ _ c.in-Lost.is)
+pub returns-in-None : goal.returns-in-None
+returns-in-None c = sym (lost_moves _ c.in-None.is)

@@ -1,5 +1,4 @@
 -- `cutting::listing::put_links` meets its contract. Assumes nothing.
-use Prim.Native.Nat.{◌-◌}
 use native.Mathlib.Omega.{arith}
 use Rattle.cutting.proofs.ListingLaws.{linking_none, linking_long, linking_rows_long, linking_more, linking_end}
 use Rattle.cutting.proofs.listing.put_links.Goals as goal

@@ -1,5 +1,4 @@
 -- `cutting::listing::put_links` meets its contract. Assumes nothing.
-use Prim.Native.Nat.{◌-◌}
 use Rattle.cutting.proofs.ListingLaws.{Linking}
 use Rattle.cutting.proofs.listing.put_links.Given as goal
 

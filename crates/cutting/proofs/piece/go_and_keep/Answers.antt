@@ -1,4 +1,5 @@
 -- `cutting::piece::go_and_keep` meets its contract. Assumes nothing.
+use mathlib.Core.Path.{refl}
 use native.Mathlib.Omega.{arith}
 use Rattle.cutting.proofs.GoLaws.{way_asks, keep_asks, went-is}
 use Rattle.cutting.proofs.piece.go_and_keep.Goals as goal
@@ -31,8 +32,8 @@ slice_bounds-keep_pass-end-2 c = omega (arith, c.requires.fitted.long, c.way_to-
 
 pub keep_pass-requires : goal.keep_pass-requires
 keep_pass-requires c = let x = c.way_to-r in
-    let r = keep_asks _ _ _ c.args.b.now c.args.u.now _ c.requires.fitted c.requires.lends _ c.allowed-allowed.ensures c.args.t c.args.triples.now _ c.spot-to.ensures x.result _ _ x.ensures.w_after x.ensures.only x.ensures.only_2 _ c.work_of.ensures _ c.spend.ensures _ _ c.log-log.ensures c.path-path.ensures _ _ _ c.requires.logged c.requires.listed c.requires.le_n in
+    let r = keep_asks _ _ _ c.args.b.now c.args.u.now _ c.requires.fitted c.requires.lends _ c.allowed-allowed.ensures c.args.t c.args.triples.now _ c.spot-to.ensures x.result _ _ x.ensures.w_after x.ensures.only x.ensures.only_2 _ refl _ c.spend.ensures _ _ c.log-log.ensures c.path-path.ensures _ _ _ c.requires.logged c.requires.listed c.requires.le_n in
     record { sides = r.0; s_in_bounds = r.1.0; logged = r.1.1.0; route_in_bounds = r.1.1.1.0; listed = r.1.1.1.1.0; le_n = r.1.1.1.1.1 }
 
 pub returns : goal.returns
-returns c = let x = c.way_to-r in record { result_after = went-is _ _ _ c.args.b.now c.args.u.now _ c.requires.fitted c.requires.lends _ c.allowed-allowed.ensures c.args.t c.args.triples.now _ c.spot-to.ensures x.result _ _ x.ensures.w_after x.ensures.only x.ensures.only_2 _ c.work_of.ensures _ c.spend.ensures _ _ c.log-log.ensures c.path-path.ensures _ _ _ _ _ _ _ c.keep_pass.ensures.result_after; settled = c.keep_pass.ensures.settled; only = x.ensures.only; only_2 = x.ensures.only_2 }
+returns c = let x = c.way_to-r in record { result_after = went-is _ _ _ c.args.b.now c.args.u.now _ c.requires.fitted c.requires.lends _ c.allowed-allowed.ensures c.args.t c.args.triples.now _ c.spot-to.ensures x.result _ _ x.ensures.w_after x.ensures.only x.ensures.only_2 _ refl _ c.spend.ensures _ _ c.log-log.ensures c.path-path.ensures _ _ _ _ _ _ _ c.keep_pass.ensures.result_after; settled = c.keep_pass.ensures.settled; only = x.ensures.only; only_2 = x.ensures.only_2 }

@@ -1,6 +1,5 @@
 -- `cutting::tries::try_piece` meets its contract. Assumes nothing.
 use mathlib.Core.Path.{refl}
-use Prim.Native.Nat.{◌-◌}
 use native.Mathlib.Omega.{arith}
 use Rattle.cutting.proofs.TriesLaws.{piece_in, starts_few, trying_none, start_asks, try_asks, trying_more, done_full, done-worth, done-last}
 use borrow.Author.Rules.{rules}

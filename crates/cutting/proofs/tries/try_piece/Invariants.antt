@@ -1,5 +1,4 @@
 -- `cutting::tries::try_piece` meets its contract. Assumes nothing.
-use Prim.Native.Nat.{◌-◌}
 use Rattle.cutting.proofs.TriesLaws.{Round}
 use Rattle.cutting.proofs.tries.try_piece.Given as goal
 

@@ -8,24 +8,12 @@ use Rattle.dilation.proofs.CoverLaws.{reach-none, reach_more, lefts_none, lefts_
 use Rattle.dilation.proofs.cover.from_left.Goals as goal
 use Rattle.dilation.proofs.cover.from_left.Goals.{else-i-reach, then-i-reach}
 
-pub loop-i-init : goal.loop-i-init
-loop-i-init c = (lefts_none _ _ _, reach-none _, refl, omega arith)
-
-pub width_at-requires : goal.width_at-requires
-width_at-requires c = let d = c.loop-i-test.true in record { k_in_bounds = omega (arith, c.requires.wide.long, d); k_in_bounds_2 = c.requires.wide.told _ d }
-
-pub overflow_add-i : goal.overflow_add-i
-overflow_add-i c = let d = c.loop-i-test.true in omega (arith, c.requires.wide.places, c.requires.wide.few _ d, c.width_at.ensures, d)
-
 pub loop-i-preserved : goal.loop-i-preserved
 loop-i-preserved c = let v = c.loop-i.invariant in
     let d = c.loop-i-test.true in
     let l : c.loop-i.i < length c.loop-i.flags = omega (arith, v.2, c.requires.n_in_bounds, d) in
-    let r = reach_more _ _ _ _ v.1 (c.greatest-reach.ensures ∙ ap (λ (x : ℕ). max c.loop-i.reach (c.loop-i.i + x)) c.width_at.ensures) in
+    let r = reach_more _ _ _ _ v.1 (c.max-reach.ensures ∙ ap (λ (x : ℕ). max c.loop-i.reach (c.loop-i.i + x)) c.width_at.ensures) in
     let f = width_at c.args.dist.now c.args.widths.now in
     let g : CoveredLeft f c.args.n (c.loop-i.i + 1) (set c.loop-i.flags c.loop-i.i c.if-i-reach.flags) =
     elim c.if-i-reach.branch [ then-i-reach w ↦ subst (λ (x : ℕ). CoveredLeft f c.args.n (c.loop-i.i + 1) (set c.loop-i.flags c.loop-i.i x)) (sym w.flags-is) (lefts_on f _ _ _ _ v.0 l d r w.if-i-reach.true) | else-i-reach w ↦ subst (λ (x : ℕ). CoveredLeft f c.args.n (c.loop-i.i + 1) (set c.loop-i.flags c.loop-i.i x)) (sym w.flags-is) (lefts_off f _ _ _ _ v.0 l d r w.if-i-reach.false) ] in
     (g, r, length-set c.loop-i.flags c.loop-i.i c.if-i-reach.flags ∙ v.2, omega (arith, d))
-
-pub returns : goal.returns
-returns c = let v = c.loop-i.invariant in let z : c.loop-i.i ≡ c.args.n = omega (arith, c.loop-i-test.false, v.3) in (v.2, subst (λ (x : ℕ). CoveredLeft (width_at c.args.dist.now c.args.widths.now) c.args.n x c.loop-i.flags) z v.0)

@@ -8,21 +8,9 @@ use Rattle.dilation.proofs.CoverLaws.{reach-none, reach_more, rights_none, right
 use Rattle.dilation.proofs.cover.from_right.Goals as goal
 use Rattle.dilation.proofs.cover.from_right.Goals.{else-t-reach, then-t-reach}
 
-pub loop-t-init : goal.loop-t-init
-loop-t-init c = (rights_none _ _ _ c.requires.covered_left, reach-none _, refl, omega arith)
-
-pub width_at-requires : goal.width_at-requires
-width_at-requires c = let d = c.loop-t-test.true in record { k_in_bounds = omega (arith, c.requires.wide.long, d); k_in_bounds_2 = c.requires.wide.told _ (omega (arith, d)) }
-
-pub overflow_add-t : goal.overflow_add-t
-overflow_add-t c = let d = c.loop-t-test.true in omega (arith, c.requires.wide.places, c.requires.wide.few (c.args.n - 1 - c.loop-t.t) (omega (arith, d)), c.width_at.ensures, d)
-
 pub loop-t-preserved : goal.loop-t-preserved
 loop-t-preserved c = let v = c.loop-t.invariant in
     let d = c.loop-t-test.true in
     let l : c.args.n - 1 - c.loop-t.t < length c.loop-t.flags = omega (arith, v.2, c.requires.n_in_bounds, d) in
-    let r = reach_more _ _ _ _ v.1 (c.greatest-reach.ensures ∙ ap (λ (x : ℕ). max c.loop-t.reach (c.loop-t.t + x)) c.width_at.ensures) in
+    let r = reach_more _ _ _ _ v.1 (c.max-reach.ensures ∙ ap (λ (x : ℕ). max c.loop-t.reach (c.loop-t.t + x)) c.width_at.ensures) in
     elim c.if-t-reach.branch [ then-t-reach w ↦ (subst (CoveredRight _ _ _) (sym w.flags-is) (rights_on _ _ _ _ _ d refl r _ v.0 l w.if-t-reach.true), r, ap length w.flags-is ∙ length-set c.loop-t.flags (c.args.n - 1 - c.loop-t.t) 1 ∙ v.2, omega (arith, d)) | else-t-reach w ↦ (subst (CoveredRight _ _ _) (sym w.flags-is) (rights_off _ _ _ _ _ d refl r _ v.0 w.if-t-reach.false), r, ap length w.flags-is ∙ v.2, omega (arith, d)) ]
-
-pub returns : goal.returns
-returns c = let v = c.loop-t.invariant in (v.2, rights_end _ _ _ _ v.0 c.loop-t-test.false)

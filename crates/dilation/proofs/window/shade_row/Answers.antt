@@ -8,12 +8,3 @@ cover_within-requires c = let p = c.requires in record { wide = p.wide; n_in_bou
 
 pub cover_within-requires-2 : goal.cover_within-requires-2
 cover_within-requires-2 c = let p = c.requires in record { wide = p.wide_2; n_in_bounds = omega (arith, p.wide.places); covered = blank_covered _ _ _ _ p.wide_2 p.n_in_bounds.2 }
-
-pub returns : goal.returns
-returns c = record {
-  below = _;
-  within = _;
-  belows = c.cover_within.ensures.1;
-  withins = c.cover_within-2.ensures.1;
-  wrote = c.write_row.ensures;
-}

@@ -32,16 +32,6 @@ pub loop-j-init : goal.loop-j-init
 loop-j-init c = let e = c.down.ensures in
     (shading_none _ _ c.args.w c.requires.on _ _ _ _ _ (replicate 4096 4096) e.1 (λ k h. get_or-replicate 4096 k 4096 0 h), refl, refl, omega arith)
 
-pub overflow_mul-base : goal.overflow_mul-base
-overflow_mul-base c = omega (arith, row (goal.at.overflow_mul-base c).At-loop-j c.loop-j-test.true)
-
-pub overflow_add-base : goal.overflow_add-base
-overflow_add-base c = let p = c.requires.on in omega (arith, row (goal.at.overflow_add-base c).At-loop-j c.loop-j-test.true, p.wide, p.order)
-
-pub up_row-requires : goal.up_row-requires
-up_row-requires c = let p = c.requires in
-    let r = row (goal.at.up_row-requires c).At-loop-j c.loop-j-test.true in record { n_in_bounds = omega (arith, r, p.on.wide, p.on.order, p.nx_in_bounds.1, long (goal.at.up_row-requires c).At-loop-j); n_in_bounds_2 = omega (arith, c.loop-j.invariant.2, p.on.columns) }
-
 pub tell_row-requires : goal.tell_row-requires
 tell_row-requires c = let p = c.requires in
     let t = c.loop-j-test.true in
@@ -68,6 +58,3 @@ loop-j-preserved c = let p = c.requires in
       u.auto.run ∙ c.loop-j.invariant.2,
       omega (arith, c.loop-j.invariant.3),
     )
-
-pub returns : goal.returns
-returns c = shading_end _ _ c.args.w c.requires.on _ _ _ _ _ _ _ _ c.loop-j.invariant.0 c.loop-j-test.false (long (goal.at.returns c).At-loop-j)

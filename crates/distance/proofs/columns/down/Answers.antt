@@ -6,12 +6,6 @@ use Rattle.distance.proofs.NumberLaws.{one-row}
 use Rattle.distance.proofs.ColumnLaws.{down-same, step_down}
 use Rattle.distance.proofs.columns.down.Goals as goal
 
-pub loop-k-init : goal.loop-k-init
-loop-k-init c = record { high = omega arith; long = refl; down = c.requires.down; low = omega arith }
-
-pub from_above-requires : goal.from_above-requires
-from_above-requires c = tt
-
 pub loop-k-preserved : goal.loop-k-preserved
 loop-k-preserved c = let l = c.loop-k in
     record {
@@ -20,9 +14,6 @@ loop-k-preserved c = let l = c.loop-k in
       down = rw c.from_above.ensures (step_down _ _ _ _ _ _ l.invariant.down (omega arith) c.args.ny (omega arith) (omega arith) (omega arith));
       low = omega arith;
     }
-
-pub shape_of-work : goal.shape_of-work
-shape_of-work c = c.loop-k.invariant.long
 
 pub returns : goal.returns
 returns c = down-same (omega (arith, one-row c.args.nx c.args.ny c.requires.map_sides.row)) c.loop-k.invariant.down

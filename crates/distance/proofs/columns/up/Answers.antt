@@ -3,18 +3,11 @@ use mathlib.Core.Path.{◌≡◌, refl, sym, ap, ◌∙◌}
 use Prim.Native.Nat.{ℕ, ◌-◌, ◌+◌}
 use native.Mathlib.Omega.{arith}
 use lib.ListN.{length-set}
-use Rattle.distance.proofs.NumberLaws.{one-row}
 use Rattle.distance.proofs.ColumnLaws.{raised_same, up_none, step-up}
 use Rattle.distance.proofs.columns.up.Goals as goal
 
-pub overflow_sub-k : goal.overflow_sub-k
-overflow_sub-k c = omega (arith, one-row c.args.nx c.args.ny c.requires.map_sides.row)
-
 pub loop-k-init : goal.loop-k-init
 loop-k-init c = record { high = omega arith; long = refl; up = raised_same (ap (λ (n : ℕ). n - c.args.nx) (sym c.requires.cells_value)) (up_none _ _ _ (omega arith)) }
-
-pub from_below-requires : goal.from_below-requires
-from_below-requires c = tt
 
 pub loop-k-preserved : goal.loop-k-preserved
 loop-k-preserved c = let l = c.loop-k in
@@ -23,9 +16,3 @@ loop-k-preserved c = let l = c.loop-k in
       long = length-set l.work (l.k - 1) _ ∙ l.invariant.long;
       up = rw c.from_below.ensures (step-up _ _ _ _ _ (raised_same (let e : l.k ≡ l.k - 1 + 1 = omega arith in e) l.invariant.up) (omega arith) (omega arith) (omega arith));
     }
-
-pub shape_of-work : goal.shape_of-work
-shape_of-work c = c.loop-k.invariant.long
-
-pub returns : goal.returns
-returns c = raised_same (let e : c.loop-k.k ≡ 0 = omega arith in e) c.loop-k.invariant.up

@@ -13,6 +13,3 @@ pub record Swept (nx ny cells : ℕ) (work₀ work : List ℕ) (k : ℕ) : Type 
 
 abbrev pub invariant-loop-k : goal.invariant-loop-k
 invariant-loop-k l = Swept l.nx l.ny l.cells l.initial.work l.work l.k
-
-abbrev pub decreases-loop-k : goal.decreases-loop-k
-decreases-loop-k l = l.k

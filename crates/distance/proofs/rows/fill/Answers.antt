@@ -29,17 +29,6 @@ module _ (c : In-loop-k) where
   ends : c.loop-k.e ≤ c.args.nx
   ends = edge_le _ _ _ _ _ _ c.requires.sound c.loop-k.invariant.edge
 
-pub loop-k-init : goal.loop-k-init
-loop-k-init c = record { high = omega arith; long = refl; edge = record { inside = λ a. absurd (let z : ⊥ = omega arith in z); outside = λ a. refl }; same = λ c a. refl; filled = filled_none _ _ _ _ _ }
-
-pub overflow_cast-a : goal.overflow_cast-a
-overflow_cast-a c = let e = entry (goal.at.overflow_cast-a c).In-loop-k in omega arith
-
-pub span-requires : goal.span-requires
-span-requires c = let e = entry (goal.at.span-requires c).In-loop-k in
-    let g = ends (goal.at.span-requires c).In-loop-k in
-    let w = c.requires.sound.wide in record { e_in_bounds = omega (arith, c.requires.nx_bound, c.requires.nx_in_bounds, c.loop-k.invariant.long); e_bound = omega arith; p_bound = omega arith; p_bound_2 = e.root; key_bound = e.small }
-
 pub loop-k-preserved : goal.loop-k-preserved
 loop-k-preserved c = let l = c.loop-k in
     let p = c.span in
@@ -51,9 +40,3 @@ loop-k-preserved c = let l = c.loop-k in
       same = λ x a. p.ensures.right x (omega (arith, ends (goal.at.loop-k-preserved c).In-loop-k)) (omega (arith, e.inside)) ∙ l.invariant.same x a;
       filled = filled_more _ _ _ _ (l.k - 1) _ _ _ _ l.invariant.filled (omega (arith, l.invariant.high, c.loop-k-test.true)) (edge_same (let z : l.k ≡ l.k - 1 + 1 = omega (arith, c.loop-k-test.true) in z) l.invariant.edge) _ _ _ (same-column (goal.at.loop-k-preserved c).In-loop-k) (same_at (goal.at.loop-k-preserved c).In-loop-k 1) (same_at (goal.at.loop-k-preserved c).In-loop-k 2) p.ensures;
     }
-
-pub shape_of-work : goal.shape_of-work
-shape_of-work c = c.loop-k.invariant.long
-
-pub returns : goal.returns
-returns c = let l = c.loop-k in filled-all _ _ _ _ _ _ _ c.requires.n_nonzero (edge_same (let z : l.k ≡ 0 = omega arith in z) l.invariant.edge) l.invariant.filled

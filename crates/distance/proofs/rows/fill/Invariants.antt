@@ -16,6 +16,3 @@ pub record Filling (base s nx n : ℕ) (work₀ work : List ℕ) (k e : ℕ) : T
 
 abbrev pub invariant-loop-k : goal.invariant-loop-k
 invariant-loop-k l = Filling l.base l.s l.nx l.n l.initial.work l.work l.k l.e
-
-abbrev pub decreases-loop-k : goal.decreases-loop-k
-decreases-loop-k l = l.k

@@ -9,10 +9,6 @@ fill-requires c = let v = c.envelope-n in
     let k = keyed c.args.work.now c.args.base _ _ c.requires.nx_bound (row-keys c.args.work.now c.args.base _) in
     let l = c.if-n-eq0.false in record { nx_bound = c.requires.nx_bound_2; nx_in_bounds = omega (arith, v.auto.work, c.requires.nx_in_bounds); sound = sound _ _ _ _ _ _ k (omega arith) v.ensures.stack; n_nonzero = omega arith }
 
-pub returns-then-n-eq0 : goal.returns-then-n-eq0
-returns-then-n-eq0 c = let v = c.envelope-n.ensures in
-    row-blank _ _ _ _ _ _ c.requires.nx_bound c.requires.nx_bound_2 v.rest _ c.if-n-eq0.true v.stack c.put.ensures
-
 pub returns-else-n-eq0 : goal.returns-else-n-eq0
 returns-else-n-eq0 c = let v = c.envelope-n.ensures in
     row-filled _ _ _ _ _ _ c.requires.nx_bound c.requires.nx_bound_2 v.rest _ v.stack c.fill.ensures

@@ -4,8 +4,5 @@ use Rattle.geom.specs.Region.{Held}
 use Rattle.entry.proofs.RasterLaws.{raster_is}
 use Rattle.entry.proofs.judge.raster_of.Goals as goal
 
-pub bounds-c-requires : goal.bounds-c-requires
-bounds-c-requires c = subst (Held c.args.vs.now c.args.lens.now) (sym c.pocket_of-region.ensures) c.requires.held
-
 pub returns : goal.returns
 returns c = raster_is _ _ _ _ _ _ _ _ c.pocket_of-region.ensures c.bounds-c.ensures c.cell_of-cell.ensures c.new.ensures

@@ -1,11 +1,9 @@
 -- `entry::params::cell_of` meets its contract. Assumes nothing.
-use Rattle.entry.specs.Questions.{cell_of, given_or}
+use mathlib.Core.Path.{◌∙◌}
+use Rattle.entry.specs.Questions.{cell_of}
+use Rattle.entry.proofs.RangeLaws.{given-is}
 use Rattle.entry.proofs.params.cell_of.Goals as goal
 
-pub returns-in-Given : goal.returns-in-Given
-unfolding cell_of given_or
-returns-in-Given c = rw c.in-Given.is
-
-pub returns-in-Absent : goal.returns-in-Absent
-unfolding cell_of given_or
-returns-in-Absent c = rw c.in-Absent.is
+pub returns : goal.returns
+unfolding cell_of
+returns c = c.unwrap_or.ensures ∙ given-is _ _

@@ -1,11 +1,9 @@
 -- `entry::questions::is_short` meets its contract. Assumes nothing.
-use Rattle.entry.specs.Questions.{absent_or, at_most1000}
+use borrow.Author.Rules.{rules}
+use Rattle.entry.specs.Questions.{at_most1000}
+use Rattle.entry.proofs.RangeLaws.{test-by}
 use Rattle.entry.proofs.questions.is_short.Goals as goal
 
-pub returns-in-Given : goal.returns-in-Given
-unfolding absent_or at_most1000
-returns-in-Given c = rw c.in-Given.is
-
-pub returns-in-Absent : goal.returns-in-Absent
-unfolding absent_or
-returns-in-Absent c = rw c.in-Absent.is
+pub returns : goal.returns
+unfolding at_most1000
+returns c = test-by at_most1000 _ _ _ c.is_none_or.ensures (λ x h. search rules)

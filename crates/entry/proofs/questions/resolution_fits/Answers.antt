@@ -1,11 +1,9 @@
 -- `entry::questions::resolution_fits` meets its contract. Assumes nothing.
-use Rattle.entry.specs.Questions.{resolution_fit, absent_or}
+use borrow.Author.Rules.{rules}
+use Rattle.entry.specs.Questions.{fine_for, resolution_fit}
+use Rattle.entry.proofs.RangeLaws.{test-by}
 use Rattle.entry.proofs.questions.resolution_fits.Goals as goal
 
-pub returns-in-Given : goal.returns-in-Given
-unfolding resolution_fit absent_or
-returns-in-Given c = rw c.in-Given.is c.fine_for.ensures
-
-pub returns-in-Absent : goal.returns-in-Absent
-unfolding resolution_fit absent_or
-returns-in-Absent c = rw c.in-Absent.is
+pub returns : goal.returns
+unfolding resolution_fit
+returns c = test-by (fine_for c.args.p.tool_diameter) _ _ _ c.is_none_or.ensures (λ x h. search rules)

@@ -1,11 +1,8 @@
 -- `entry::questions::thinning_fits` meets its contract. Assumes nothing.
-use Rattle.entry.specs.Questions.{thinning_fit, absent_or}
+use Rattle.entry.specs.Questions.{one_or_more, thinning_fit}
+use Rattle.entry.proofs.RangeLaws.{test-by}
 use Rattle.entry.proofs.questions.thinning_fits.Goals as goal
 
-pub returns-in-Given : goal.returns-in-Given
-unfolding thinning_fit absent_or
-returns-in-Given c = rw c.in-Given.is c.one_or_more.ensures
-
-pub returns-in-Absent : goal.returns-in-Absent
-unfolding thinning_fit absent_or
-returns-in-Absent c = rw c.in-Absent.is
+pub returns : goal.returns
+unfolding thinning_fit
+returns c = test-by one_or_more _ _ _ c.is_none_or.ensures (λ x h. h)

@@ -5,15 +5,6 @@ use borrow.Author.Tests.{eq-eqb, ne_eqb, lt-ltb, le-ltb}
 use Rattle.events.specs.Read.{read_whole, read_at}
 use Rattle.events.proofs.list.read_row.Goals as goal
 
-pub overflow_cast-n : goal.overflow_cast-n
-overflow_cast-n c = omega (arith, c.shared_slice_known-5-1.given (c.args.k * 3 + 1))
-
-pub overflow_cast-count : goal.overflow_cast-count
-overflow_cast-count c = omega (arith, c.shared_slice_known-5-1.given (c.args.k * 3 + 2))
-
-pub overflow_add-n : goal.overflow_add-n
-overflow_add-n c = omega (arith, c.shared_slice_known-5-1.given (c.args.k * 3 + 1), c.shared_slice_known-5-1.given (c.args.k * 3 + 2))
-
 pub returns-then-triples-n : goal.returns-then-triples-n
 unfolding read_at read_whole
 returns-then-triples-n c = rw (lt-ltb _ _ c.if-triples-n.true)

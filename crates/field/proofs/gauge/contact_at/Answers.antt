@@ -9,14 +9,14 @@ use Rattle.setup.specs.Place.{contact_at}
 use Rattle.field.proofs.GaugeLaws.{known-hits}
 use Rattle.field.proofs.gauge.contact_at.Goals as goal
 
-pub returns-then-known : goal.returns-then-known
+pub returns-in-Some : goal.returns-in-Some
 unfolding contact_at
-returns-then-known c = contact-is _ _ _ _ _ _ _ c.samples_of-n.ensures (known-hits _ _ _ _ _ _ c.samples_of-n.ensures c.if-known.true c.requires.known_at)
+returns-in-Some c = contact-is _ _ _ _ _ _ _ c.samples_of-samples.ensures (known-hits _ _ _ _ _ _ _ c.samples_of-samples.ensures c.in-Some.is c.requires.known_at)
 
-pub centre_hits-requires : goal.centre_hits-requires
+pub centre_hits-hits-requires : goal.centre_hits-hits-requires
 unfolding samples_of
-centre_hits-requires c = let n = c.samples_of-n.ensures in record { over = c.requires.over; rims = subst (λ (n : ℕ). Rims c.args.s.grid c.args.s.r n c.args.rim.now) (sym n) c.requires.tables.rims; n_nonzero = omega (arith, n) }
+centre_hits-hits-requires c = let n = c.samples_of-samples.ensures in record { over = c.requires.over; rims = subst (λ (n : ℕ). Rims c.args.s.grid c.args.s.r n c.args.rim.now) (sym n) c.requires.tables.rims; n_nonzero = omega (arith, n) }
 
 pub returns : goal.returns
 unfolding contact_at
-returns c = contact-is _ _ _ _ _ _ _ c.samples_of-n.ensures c.centre_hits.ensures
+returns c = contact-is _ _ _ _ _ _ _ c.samples_of-samples.ensures c.centre_hits-hits.ensures

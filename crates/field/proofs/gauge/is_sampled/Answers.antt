@@ -4,4 +4,4 @@ use Rattle.distance.specs.declared.limits.Threshold.{Threshold}
 use Rattle.field.proofs.gauge.is_sampled.Goals as goal
 
 pub beyond-requires : goal.beyond-requires
-beyond-requires c = let t = c.requires.gauged.far in record { limit_of = t.limit; strict_value = ap (λ (b : Threshold). b.strict) t.is }
+beyond-requires c = record { strict_value = ap (λ (b : Threshold). b.strict) c.args.g.gauged.far }

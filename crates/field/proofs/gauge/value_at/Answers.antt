@@ -19,13 +19,13 @@ pub bounds-stock-j : goal.bounds-stock-j
 bounds-stock-j c = number-below c.args.g.setup.grid.nx _ _ _ _ c.requires.i_lt_nx.0 c.requires.i_lt_nx.1 c.requires.nx_in_bounds
 
 pub beyond-requires : goal.beyond-requires
-beyond-requires c = let t = c.requires.gauged.far in record { limit_of = t.limit; strict_value = ap (λ (b : Threshold). b.strict) t.is }
+beyond-requires c = record { strict_value = ap (λ (b : Threshold). b.strict) c.args.g.gauged.far }
 
 pub returns-then-beyond : goal.returns-then-beyond
-returns-then-beyond c = value-far _ c.requires.gauged _ _ _ _ _ c.beyond.ensures c.if-beyond.true
+returns-then-beyond c = value-far c.args.g _ _ _ _ _ c.beyond.ensures c.if-beyond.true
 
 pub returns-then-is_within : goal.returns-then-is_within
-returns-then-is_within c = value-deep _ c.requires.gauged _ _ _ _ _ c.beyond.ensures c.if-beyond.false _ c.is_within.ensures c.if-is_within.true
+returns-then-is_within c = value-deep c.args.g _ _ _ _ _ c.beyond.ensures c.if-beyond.false _ c.is_within.ensures c.if-is_within.true
 
 pub returns : goal.returns
-returns c = value-sampled _ c.requires.gauged _ _ _ _ _ c.beyond.ensures c.if-beyond.false _ c.is_within.ensures c.if-is_within.false _ _ _ c.contact_at-t.ensures c.angle_of.ensures c.narrow.ensures
+returns c = value-sampled c.args.g _ _ _ _ _ c.beyond.ensures c.if-beyond.false _ c.is_within.ensures c.if-is_within.false _ _ _ c.contact_at-t.ensures c.angle_of.ensures c.narrow.ensures

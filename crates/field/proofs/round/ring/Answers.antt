@@ -20,19 +20,10 @@ loop-k-init c = going_none _ _ _ _
 pub bounds-allowed-k : goal.bounds-allowed-k
 bounds-allowed-k c = omega (arith, c.requires, c.loop-k-test.true)
 
-pub offset_bounds-f-k : goal.offset_bounds-f-k
-offset_bounds-f-k c = omega (arith, long (goal.at.offset_bounds-f-k c).At-loop-k)
-
-pub bounds-f-k : goal.bounds-f-k
-bounds-f-k c = omega (arith, long (goal.at.bounds-f-k c).At-loop-k, c.loop-k-test.true)
-
 pub loop-k-preserved : goal.loop-k-preserved
 loop-k-preserved c = let l = c.loop-k in
     going_more _ _ _ _ _ _ _ l.invariant c.loop-k-test.true
-    (elim c.if-allowed-k-eq1.branch [ then-allowed-k-eq1 w ↦ rw (w.f-is, eq-eqb _ _ w.if-allowed-k-eq1.true) refl | else-allowed-k-eq1 w ↦ rw (w.f-is, ne_eqb _ _ w.if-allowed-k-eq1.false) refl ])
-
-pub shape_of-f : goal.shape_of-f
-shape_of-f c = long (goal.at.shape_of-f c).At-loop-k
+    (elim c.if-allowed-k-eq1.branch [ then-allowed-k-eq1 w ↦ rw (w.cell-is, eq-eqb _ _ w.if-allowed-k-eq1.true) refl | else-allowed-k-eq1 w ↦ rw (w.cell-is, ne_eqb _ _ w.if-allowed-k-eq1.false) refl ])
 
 pub returns : goal.returns
 returns c = going_end _ _ _ _ _ _ c.loop-k.invariant c.loop-k-test.false ∙ written_all nan (ring_at c.args.allowed.now) c.args.f.now

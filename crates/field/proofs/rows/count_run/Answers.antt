@@ -26,7 +26,7 @@ overflow_add-row-2 c = let p = c.requires.j_lt_ny in omega (arith, low (goal.at.
 
 pub is_dense-requires : goal.is_dense-requires
 is_dense-requires c = let S = c.requires.sensing in
-    let p = c.requires.j_lt_ny in record { gauged = c.requires.gauged; end_in_bounds = (omega (arith, low (goal.at.is_dense-requires c).Start _ S.allowed-long, p.2), omega (arith, low (goal.at.is_dense-requires c).Start _ S.near-long, p.2), omega (arith, low (goal.at.is_dense-requires c).Start _ S.stock-long, p.2)); first_le_end = (omega (arith, p.1), omega (arith, low (goal.at.is_dense-requires c).Start _ S.over.sides.cells, p.2)) }
+    let p = c.requires.j_lt_ny in record { end_in_bounds = (omega (arith, low (goal.at.is_dense-requires c).Start _ S.allowed-long, p.2), omega (arith, low (goal.at.is_dense-requires c).Start _ S.near-long, p.2), omega (arith, low (goal.at.is_dense-requires c).Start _ S.stock-long, p.2)); first_le_end = (omega (arith, p.1), omega (arith, low (goal.at.is_dense-requires c).Start _ S.over.sides.cells, p.2)) }
 
 pub hits_along-requires : goal.hits_along-requires
 unfolding samples_of

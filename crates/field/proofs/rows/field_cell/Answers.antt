@@ -17,10 +17,10 @@ pub overflow_add-k : goal.overflow_add-k
 overflow_add-k c = omega (arith, low (goal.at.overflow_add-k c).Start _ c.requires.sensing.over.sides.cells)
 
 pub wanted-requires : goal.wanted-requires
-wanted-requires c = let p = c.requires.sensing in record { gauged = c.requires.gauged; k_in_bounds = (low (goal.at.wanted-requires c).Start _ p.allowed-long, low (goal.at.wanted-requires c).Start _ p.near-long) }
+wanted-requires c = let p = c.requires.sensing in record { k_in_bounds = (low (goal.at.wanted-requires c).Start _ p.allowed-long, low (goal.at.wanted-requires c).Start _ p.near-long) }
 
 pub value_at-v-requires : goal.value_at-v-requires
-value_at-v-requires c = let p = c.requires.sensing in record { gauged = c.requires.gauged; over = p.over; nx_in_bounds = p.stock-long; tables = p.tables; known_at = c.requires.known_at; i_lt_nx = (c.requires.i_lt_nx.0, c.requires.i_lt_nx.1) }
+value_at-v-requires c = let p = c.requires.sensing in record { over = p.over; nx_in_bounds = p.stock-long; tables = p.tables; known_at = c.requires.known_at; i_lt_nx = (c.requires.i_lt_nx.0, c.requires.i_lt_nx.1) }
 
 pub offset_bounds-f-k : goal.offset_bounds-f-k
 offset_bounds-f-k c = omega (arith, low (goal.at.offset_bounds-f-k c).Start _ c.requires.sensing.over.sides.cells)

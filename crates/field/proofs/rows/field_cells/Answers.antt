@@ -28,7 +28,7 @@ known_at-known-requires c = c.requires.counts_len.0
 pub field_cell-n-requires : goal.field_cell-n-requires
 field_cell-n-requires c = let l = c.loop-i in
     let t = c.loop-i-test.true in
-    let w = swept (goal.at.field_cell-n-requires c).At-loop-i in record { gauged = c.requires.gauged; sensing = subst (Sensing c.args.g.setup c.args.map.now c.args.allowed.now c.args.stock.now c.args.near.now c.args.rim.now) (sym w.long) c.requires.sensing; known_at = known-along _ _ _ _ _ _ c.requires.counts_len.1 _ _ (omega (arith, c.requires.from_le_first.0, l.invariant.low)) c.known_at-known.ensures; i_lt_nx = (omega (arith, t, c.requires.from_le_first.1), c.requires.j_lt_ny.0, w.few) }
+    let w = swept (goal.at.field_cell-n-requires c).At-loop-i in record { sensing = subst (Sensing c.args.g.setup c.args.map.now c.args.allowed.now c.args.stock.now c.args.near.now c.args.rim.now) (sym w.long) c.requires.sensing; known_at = known-along _ _ _ _ _ _ c.requires.counts_len.1 _ _ (omega (arith, c.requires.from_le_first.0, l.invariant.low)) c.known_at-known.ensures; i_lt_nx = (omega (arith, t, c.requires.from_le_first.1), c.requires.j_lt_ny.0, w.few) }
 
 pub overflow_step-i : goal.overflow_step-i
 overflow_step-i c = omega (arith, c.loop-i-test.true)

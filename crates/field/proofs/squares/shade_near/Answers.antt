@@ -18,4 +18,4 @@ shade-requires c = let n = c.cells-n.ensures in
 pub returns : goal.returns
 returns c = let l = c.requires.setup_in_bounds in
     let f = c.requires.takes in
-    near_shaded _ c.requires.gauged _ _ _ c.requires.wanted_in l.1 f _ _ _ c.cells-n.ensures c.dirty-a.ensures c.near-c.ensures _ c.shade.ensures
+    near_shaded c.args.g _ _ _ c.requires.wanted_in l.1 _ f _ _ _ c.cells-n.ensures c.dirty-a.ensures c.near-c.ensures _ c.shade.ensures

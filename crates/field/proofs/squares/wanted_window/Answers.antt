@@ -6,13 +6,13 @@ use Rattle.field.proofs.BandLaws.{wanted-whole, wanted_around, dirty_part, not-t
 use Rattle.field.proofs.squares.wanted_window.Goals as goal
 
 pub around-requires : goal.around-requires
-around-requires c = let n = c.cells-n.ensures in record { sides = c.requires.sides; marks_len = part_long 4 _ _ _ c.args.b.now c.dirty-a.ensures refl (omega (arith, n, c.requires.setup_in_bounds)) ∙ n; told_value = c.if-l.true }
+around-requires c = let n = c.cells-n.ensures in record { sides = c.requires.sides; marks_len = part_long 4 _ _ _ c.args.b.now c.dirty-a.ensures refl (omega (arith, n, c.requires.setup_in_bounds)) ∙ n }
 
-pub returns-then-l : goal.returns-then-l
-returns-then-l c = wanted_around _ c.requires.gauged (not-true _ c.if-not-g.true) c.if-l.true _ _ (dirty_part _ _ _ _ _ _ _ c.cells-n.ensures c.dirty-a.ensures c.around.ensures)
+pub returns-in-Some : goal.returns-in-Some
+returns-in-Some c = wanted_around c.args.g (not-true _ c.if-not-g.true) _ c.in-Some.is _ _ (dirty_part _ _ _ _ _ _ _ c.cells-n.ensures c.dirty-a.ensures c.around.ensures)
 
-pub returns-else-l : goal.returns-else-l
-returns-else-l c = wanted-whole _ _ _
+pub returns-in_default : goal.returns-in_default
+returns-in_default c = wanted-whole _ _ _
 
 pub returns-else-not-g : goal.returns-else-not-g
 returns-else-not-g c = wanted-whole _ _ _

@@ -1,16 +1,14 @@
--- `filling::centres::rises` meets its contract. The invariant: no column so far is left of the one before it. Assumes nothing.
-use Rattle.loops.proofs.Cases.{never}
-use Rattle.filling.proofs.CentreLaws.{climbing_none, climbing_more, climbing_end}
+-- `filling::centres::rises` meets its contract. Assumes nothing.
+use Rattle.std.proofs.Common.{rules, ◌≡◌, ℕ, ◌+◌, ◌<◌, true, length, get_or}
+use Rattle.std.specs.Float.{nan}
+use Rattle.std.specs.Float.Ieee.{le}
+use Rattle.filling.proofs.CentreLaws.{rising-steps}
 use Rattle.filling.proofs.centres.rises.Goals as goal
+use Rattle.filling.proofs.centres.rises.Goals.{After-all}
 
-pub loop-i-init : goal.loop-i-init
-loop-i-init c = climbing_none _
-
-pub returns-then-not-xs-i : goal.returns-then-not-xs-i
-returns-then-not-xs-i c = never
-
-pub loop-i-preserved : goal.loop-i-preserved
-loop-i-preserved c = climbing_more _ _ c.loop-i.invariant c.if-not-xs-i.false
+-- no column is left of the one before it
+told : (c : After-all) → c.all.result ≡ true → (k : ℕ) → k + 1 < length c.args.xs.now → le (get_or c.args.xs.now k nan) (get_or c.args.xs.now (k + 1) nan) ≡ true
+told c e k h = search rules
 
 pub returns : goal.returns
-returns c = λ e. climbing_end _ _ c.loop-i.invariant c.loop-i-test.false
+returns c = λ e. rising-steps _ (told (goal.at.returns c).After-all e)

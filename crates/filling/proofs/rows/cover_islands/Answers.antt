@@ -49,12 +49,6 @@ loop-l-preserved c = let s = c.args in
       islands_more _ _ l.l _ _ _ _ _ _ _ l.invariant.0 (λ i. inside_is _ _ g _ l.l _ _ _ l.invariant.1 z.ensures refl) l.invariant.5 f.ensures,
     )
 
-pub shape_of-row : goal.shape_of-row
-shape_of-row c = c.loop-l.invariant.2
-
-pub shape_of-cover : goal.shape_of-cover
-shape_of-cover c = c.loop-l.invariant.3
-
 pub returns : goal.returns
 unfolding in_island
 returns c = let l = c.loop-l in

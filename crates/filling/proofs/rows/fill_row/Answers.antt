@@ -9,20 +9,8 @@ use Rattle.filling.specs.Columns.{InRow, in_loop}
 use Rattle.filling.proofs.RowLaws.{blank-same, has_in_row, row-filled}
 use Rattle.filling.proofs.rows.fill_row.Goals as goal
 
-pub overflow_mul-base : goal.overflow_mul-base
-overflow_mul-base c = omega (arith, row_below _ _ _ _ c.requires.j_lt_ny c.requires.over.sides.cells)
-
-pub cover_islands-some-requires : goal.cover_islands-some-requires
-cover_islands-some-requires c = let e = sym c.requires.centred.0.long in record { centred = c.requires.centred.0; rising = c.requires.centred.1; held = c.requires.held; blank = blank-same _ _ _ e c.requires.blank.0; blank_2 = blank-same _ _ _ e c.requires.blank.1 }
-
 pub columns_of-c-requires : goal.columns_of-c-requires
 columns_of-c-requires c = let f = c.cover_islands-some in record { centred = c.requires.centred.0; rising = c.requires.centred.1; n_in_bounds = first-held c.args.lens.now c.args.region c.args.vs.now c.requires.held c.size-n.result c.size-n.ensures; blank = record { long = omega (arith, c.requires.centred.0.long, c.requires.blank.0.long, f.auto.row); shows = f.ensures.row } }
-
-pub set_columns-requires : goal.set_columns-requires
-set_columns-requires c = let f = c.columns_of-c in
-    let i = c.cover_islands-some in
-    let e = c.requires.centred.0.long in
-    let h = in_loop c.args.xs.now c.args.vs.now c.args.region.at c.size-n.result c.row_y-y.result in record { n_in_bounds = row_below _ _ _ _ c.requires.j_lt_ny c.requires.over.long; in_row = subst (λ (k : ℕ). InRow k f.result) e (has_in_row (length c.args.xs.now) h f.result f.new.row f.ensures); n_in_bounds_2 = (omega (arith, c.requires.blank.0.long, i.auto.row, f.auto.row), omega (arith, c.requires.blank.1.long, i.auto.cover)) }
 
 pub returns : goal.returns
 returns c = let p = c.set_columns in

@@ -5,17 +5,9 @@ use Rattle.filling.specs.Columns.{InRow}
 use Rattle.filling.proofs.RowLaws.{put_covered, put-plain, put_shown, put_many}
 use Rattle.filling.proofs.rows.set_columns.Goals as goal
 
-pub set_and_uncover-requires : goal.set_and_uncover-requires
-set_and_uncover-requires c = let r = subst (InRow c.args.n) c.in-Run.is c.requires.in_row in
-    (omega (arith, r.1, c.requires.n_in_bounds), r.1, c.requires.n_in_bounds_2.1)
-
 pub returns-then-some : goal.returns-then-some
 returns-then-some c = let f = c.set_and_uncover.ensures in
     put_covered _ _ _ _ _ _ _ _ _ c.in-Run.is _ _ f.0 f.1
-
-pub paint-requires : goal.paint-requires
-paint-requires c = let r = subst (InRow c.args.n) c.in-Run.is c.requires.in_row in
-    omega (arith, r.1, c.requires.n_in_bounds)
 
 pub returns-then-some-2 : goal.returns-then-some-2
 returns-then-some-2 c = let f = c.set_and_uncover-then-some-2.ensures in

@@ -8,26 +8,14 @@ use Rattle.filling.proofs.rows.set_free.Goals as goal
 use Rattle.filling.proofs.rows.set_free.Goals.{else-cover-i-eq1, then-cover-i-eq1}
 use Rattle.filling.proofs.rows.set_free.Goals.{At-loop-i}
 
-long : (c : At-loop-i) → length c.loop-i.map ≡ length c.args.map.now
-long c = ap length c.loop-i.invariant.is ∙ free-long c.args.base c.args.cover.now c.args.a c.loop-i.i c.args.map.now
-
 pub loop-i-init : goal.loop-i-init
 loop-i-init c = going_none _ _ _ _
-
-pub bounds-map-m : goal.bounds-map-m
-bounds-map-m c = omega (arith, long (goal.at.bounds-map-m c).At-loop-i)
-
-pub bounds-map-m-in-loop-i : goal.bounds-map-m-in-loop-i
-bounds-map-m-in-loop-i c = omega (arith, long (goal.at.bounds-map-m-in-loop-i c).At-loop-i)
 
 pub loop-i-preserved : goal.loop-i-preserved
 loop-i-preserved c = let l = c.loop-i in
     let s = c.args in
     going_more _ _ _ _ _ _ _ l.invariant c.loop-i-test.true
     (elim c.if-cover-i-eq1.branch [ then-cover-i-eq1 w ↦ free_not s.base s.cover.now l.i l.map _ w.if-cover-i-eq1.true w.map-is | else-cover-i-eq1 w ↦ free-yes s.base s.cover.now l.i l.map _ w.if-cover-i-eq1.false w.map-is ])
-
-pub shape_of-map : goal.shape_of-map
-shape_of-map c = long (goal.at.shape_of-map c).At-loop-i
 
 pub returns : goal.returns
 returns c = going_end _ _ _ _ _ _ c.loop-i.invariant c.loop-i-test.false

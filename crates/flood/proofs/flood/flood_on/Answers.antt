@@ -1,6 +1,5 @@
 -- `flood::flood::flood_on` meets its contract. Assumes nothing.
 use mathlib.Core.Path.{refl}
-use Prim.Native.Nat.{◌-◌}
 use native.Mathlib.Omega.{arith}
 use borrow.Author.Rules.{rules}
 use Rattle.flood.proofs.FloodLaws.{flooding_none, flooding_asks, flooding_more, flooding_out, flooding_end, flooding_long}
@@ -8,12 +7,6 @@ use Rattle.flood.proofs.flood.flood_on.Goals as goal
 
 pub loop-t-init : goal.loop-t-init
 loop-t-init c = (refl, flooding_none c.args.g c.requires.sides c.args.b.now c.requires.nx_in_bounds _ c.requires.stack_bound c.args.stack.now refl)
-
-pub shape_of-b-then-len-eq0 : goal.shape_of-b-then-len-eq0
-shape_of-b-then-len-eq0 c = flooding_long c.args.g c.requires.sides c.args.b.now c.requires.nx_in_bounds _ c.requires.stack_bound c.loop-t.b c.loop-t.stack c.loop-t.len c.loop-t.t c.loop-t.invariant.1
-
-pub shape_of-stack-then-len-eq0 : goal.shape_of-stack-then-len-eq0
-shape_of-stack-then-len-eq0 c = c.loop-t.invariant.0
 
 pub returns-then-len-eq0 : goal.returns-then-len-eq0
 returns-then-len-eq0 c = flooding_out c.args.g c.requires.sides c.args.b.now c.requires.nx_in_bounds _ c.requires.stack_bound c.loop-t.b c.loop-t.stack c.loop-t.len c.loop-t.t c.loop-t.invariant.1 c.loop-t-test.true c.if-len-eq0.true
@@ -23,12 +16,6 @@ visit-len-requires c = let r = flooding_asks c.args.g c.requires.sides c.args.b.
 
 pub loop-t-preserved : goal.loop-t-preserved
 loop-t-preserved c = (search rules, flooding_more c.args.g c.requires.sides c.args.b.now c.requires.nx_in_bounds _ c.requires.stack_bound c.loop-t.b c.loop-t.stack c.loop-t.len c.loop-t.t c.loop-t.invariant.1 c.loop-t-test.true (let z = c.if-len-eq0.false in omega arith) _ _ _ c.visit-len.ensures.b_after c.visit-len.ensures.only)
-
-pub shape_of-b : goal.shape_of-b
-shape_of-b c = flooding_long c.args.g c.requires.sides c.args.b.now c.requires.nx_in_bounds _ c.requires.stack_bound c.loop-t.b c.loop-t.stack c.loop-t.len c.loop-t.t c.loop-t.invariant.1
-
-pub shape_of-stack : goal.shape_of-stack
-shape_of-stack c = c.loop-t.invariant.0
 
 pub returns : goal.returns
 returns c = flooding_end c.args.g c.requires.sides c.args.b.now c.requires.nx_in_bounds _ c.requires.stack_bound c.loop-t.b c.loop-t.stack c.loop-t.len c.loop-t.t c.loop-t.invariant.1 c.loop-t-test.false

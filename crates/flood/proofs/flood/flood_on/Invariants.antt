@@ -1,6 +1,5 @@
 -- `flood::flood::flood_on` meets its contract. Assumes nothing.
 use mathlib.Core.Path.{◌≡◌}
-use Prim.Native.Nat.{◌-◌}
 use lib.ListN.{length, get_or}
 use Rattle.flood.proofs.FloodLaws.{Flooding}
 use Rattle.flood.proofs.flood.flood_on.Given as goal

@@ -1,14 +1,10 @@
 -- `flood::place::farthest` meets its contract. Assumes nothing.
-use Prim.Native.Nat.{◌-◌}
 use Rattle.loops.proofs.LoopLaws.{going_none, going_more, going_end}
 use Rattle.flood.specs.Place.{farthest_of}
 use Rattle.flood.proofs.place.farthest.Goals as goal
 
 pub loop-k-init : goal.loop-k-init
 loop-k-init c = going_none _ _ _ _
-
-pub farther-best-requires : goal.farther-best-requires
-farther-best-requires c = record { n_le_most = c.requires.n_le_most; n_in_bounds = c.requires.n_in_bounds; n_in_bounds_2 = c.requires.n_in_bounds_2; k_lt_n = c.loop-k-test.true }
 
 pub loop-k-preserved : goal.loop-k-preserved
 loop-k-preserved c = going_more _ _ _ _ _ _ _ c.loop-k.invariant c.loop-k-test.true c.farther-best.ensures

@@ -1,39 +1,31 @@
--- `geom::apart::all_apart` meets its contract. The invariant: no edge of a loop before l comes near, and `at` is where loop l starts. Assumes nothing.
-use Prim.Native.Nat.{◌+◌, ◌*◌, ◌≤◌}
+-- `geom::apart::all_apart` meets its contract. Assumes nothing.
 use native.Mathlib.Omega.{arith}
-use lib.ListN.{length}
 use Rattle.loops.proofs.Cases.{never}
 use Rattle.geom.specs.Segment.{any_within}
-use Rattle.geom.proofs.RegionLaws.{start_first, start-next, loop-held}
+use Rattle.geom.proofs.RegionLaws.{start_first, turn_size, turn-held, turn_next}
 use Rattle.geom.proofs.ApartLaws.{apart_none, apart_more, apart-end, loop-apart}
 use Rattle.geom.proofs.apart.all_apart.Goals as goal
-use Rattle.geom.proofs.apart.all_apart.Goals.{After-size-n}
 
--- the loop's vertices are lent
-held : (c : After-size-n) → 2 * (c.loop-l.at + c.size-n.result) ≤ length c.args.vs.now
-held c =
-    omega (arith, loop-held c.args.lens.now c.args.g c.args.vs.now c.requires.held c.loop-l.l c.loop-l-test.true, c.size-n.ensures, c.loop-l.invariant.2)
-
-pub loop-l-init : goal.loop-l-init
-loop-l-init c = let s = c.args in (omega arith, apart_none _ _, start_first s.lens.now s.g)
+pub loop-n-init : goal.loop-n-init
+loop-n-init c = let s = c.args in (omega arith, apart_none _ _, start_first s.lens.now s.g)
 
 pub loop_apart-requires : goal.loop_apart-requires
-loop_apart-requires c = record { n_in_bounds = held (goal.at.loop_apart-requires c).After-size-n; rooted = c.requires.rooted }
-
-pub returns-then-not-loop_apart : goal.returns-then-not-loop_apart
-returns-then-not-loop_apart c = never
+loop_apart-requires c = let e = c.sizes-loops.ensures in
+    record { n_in_bounds = turn-held c.args.lens.now c.sizes-loops.result.now c.args.g e.count e.each _ c.loop-n-test.true _ c.requires.held _ c.loop-n.invariant.2; rooted = c.requires.rooted }
 
 pub overflow_add-at : goal.overflow_add-at
-overflow_add-at c = omega (arith, held (goal.at.overflow_add-at c).After-size-n)
+overflow_add-at c = let e = c.sizes-loops.ensures in
+    omega (arith, turn-held c.args.lens.now c.sizes-loops.result.now c.args.g e.count e.each _ c.loop-n-test.true _ c.requires.held _ c.loop-n.invariant.2)
 
-pub loop-l-preserved : goal.loop-l-preserved
-loop-l-preserved c = let l = c.loop-l in
-    let s = c.args in (
-      omega (arith, c.loop-l-test.true),
-      apart_more _ _ l.l l.invariant.1 (loop-apart _ _ _ _ _ l.l _ _ l.invariant.2 c.size-n.ensures (c.loop_apart.ensures c.if-not-loop_apart.false)),
-      omega (arith, start-next s.lens.now s.g l.l, l.invariant.2, c.size-n.ensures),
+pub loop-n-preserved : goal.loop-n-preserved
+loop-n-preserved c = let e = c.sizes-loops.ensures in
+    let l = c.loop-n in
+    let t = c.loop-n-test.true in (
+      omega (arith, t, e.count),
+      apart_more _ _ l.n-index l.invariant.1 (loop-apart _ _ _ _ _ l.n-index _ _ l.invariant.2 (turn_size c.args.lens.now c.sizes-loops.result.now c.args.g e.count e.each _ t) (c.loop_apart.ensures c.if-not-loop_apart.false)),
+      turn_next c.args.lens.now c.sizes-loops.result.now c.args.g e.count e.each _ t _ l.invariant.2,
     )
 
 pub returns : goal.returns
 unfolding any_within
-returns c = λ t. apart-end _ _ _ _ c.loop-l.invariant.0 c.loop-l-test.false c.loop-l.invariant.1
+returns c = λ t. apart-end _ _ _ _ c.loop-n.invariant.0 (omega (arith, c.loop-n-test.false, c.sizes-loops.ensures.count)) c.loop-n.invariant.1

@@ -8,12 +8,6 @@ use Rattle.geom.proofs.apart.loop_apart.Goals as goal
 pub loop-i-init : goal.loop-i-init
 loop-i-init c = (omega arith, apart_none _ _)
 
-pub edge_apart-requires : goal.edge_apart-requires
-edge_apart-requires c = record { n_in_bounds = omega arith; rooted = c.requires.rooted }
-
-pub returns-then-not-edge_apart : goal.returns-then-not-edge_apart
-returns-then-not-edge_apart c = never
-
 pub loop-i-preserved : goal.loop-i-preserved
 loop-i-preserved c = (omega arith, apart_more _ _ _ c.loop-i.invariant.1 (c.edge_apart.ensures c.if-not-edge_apart.false))
 

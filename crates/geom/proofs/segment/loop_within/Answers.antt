@@ -8,9 +8,6 @@ use Rattle.geom.proofs.segment.loop_within.Goals as goal
 pub loop-i-init : goal.loop-i-init
 loop-i-init c = going_none _ _ _ _
 
-pub edge_within-requires : goal.edge_within-requires
-edge_within-requires c = record { n_in_bounds = omega arith; bounds = c.requires.bounds }
-
 pub returns-then-edge_within : goal.returns-then-edge_within
 unfolding loop_within
 returns-then-edge_within c = let l = c.loop-i in any_out _ _ _ l.i l.invariant c.loop-i-test.true (sym c.edge_within.ensures ∙ c.if-edge_within.true)

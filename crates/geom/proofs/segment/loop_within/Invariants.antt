@@ -6,4 +6,4 @@ use Rattle.geom.specs.Segment.{edge_within}
 use Rattle.geom.proofs.segment.loop_within.Given as goal
 
 abbrev pub invariant-loop-i : goal.invariant-loop-i
-invariant-loop-i l = Going (or_at (edge_within l.vs l.at l.n l.p l.r)) 0 l.n false false l.i
+invariant-loop-i l = Going (or_at (edge_within l.vs l.at l.n l.p l.r.r)) 0 l.n false false l.i

@@ -1,6 +1,5 @@
 -- `helix::radius::radius_at` meets its contract. Assumes nothing.
 use mathlib.Core.Path.{sym, ap, ◌∙◌}
-use Prim.Native.Nat.{◌-◌}
 use lib.Ieee.{Float, of_bits, le}
 use Rattle.loops.proofs.LoopLaws.{going_none}
 use Rattle.helix.proofs.RadiusLaws.{radius-none, radius-some, radius_more, radius-end}

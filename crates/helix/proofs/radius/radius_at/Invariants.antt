@@ -1,5 +1,4 @@
 -- `helix::radius::radius_at` meets its contract. Assumes nothing.
-use Prim.Native.Nat.{◌-◌}
 use Rattle.loops.specs.Loop.{on, turn}
 use Rattle.loops.proofs.LoopLaws.{Going}
 use Rattle.events.specs.Helix.{shrink}

@@ -1,7 +1,6 @@
 -- `helix::radius::rim_allowed` meets its contract. Assumes nothing.
 use mathlib.Core.Path.{ap, ◌∙◌}
-use mathlib.Core.Bool.{false, not}
-use Prim.Native.Nat.{◌-◌}
+use mathlib.Core.Bool.{not}
 use Rattle.loops.proofs.LoopLaws.{going_none, any-on, any_out, any_none}
 use Rattle.helix.proofs.RadiusLaws.{blocked-is}
 use Rattle.helix.proofs.radius.rim_allowed.Goals as goal

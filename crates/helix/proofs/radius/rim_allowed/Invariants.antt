@@ -1,6 +1,5 @@
 -- `helix::radius::rim_allowed` meets its contract. Assumes nothing.
 use mathlib.Core.Bool.{false}
-use Prim.Native.Nat.{◌-◌}
 use Rattle.loops.specs.Loop.{or_at}
 use Rattle.loops.proofs.LoopLaws.{Going}
 use Rattle.events.specs.Helix.{rim_blocked}

@@ -1,6 +1,5 @@
 -- `helix::search::find` meets its contract. Assumes nothing.
 use mathlib.Core.Path.{refl, ◌∙◌}
-use Prim.Native.Nat.{◌-◌}
 use native.Mathlib.Omega.{arith}
 use Rattle.helix.proofs.SearchLaws.{tried-none, tried-long, found_none, found-one, tried_more, found-end}
 use Rattle.helix.proofs.search.find.Goals as goal

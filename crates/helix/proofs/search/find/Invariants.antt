@@ -1,6 +1,5 @@
 -- `helix::search::find` meets its contract. Assumes nothing.
 use mathlib.Core.Path.{◌≡◌}
-use Prim.Native.Nat.{◌-◌}
 use lib.ListN.{length}
 use Rattle.helix.proofs.SearchLaws.{Tried}
 use Rattle.helix.proofs.search.find.Given as goal

@@ -1,7 +1,7 @@
 -- `links::heap::before` meets its contract. Assumes nothing.
 use mathlib.Core.Path.{sym, ◌∙◌}
 use lib.Dec.{ltb}
-use Rattle.numbers.specs.declared.order.Ordering.TheVariants.{Less, Equal, Greater}
+use Rattle.std.specs.declared.cmp.Ordering.TheVariants.{Less, Equal, Greater}
 use Rattle.links.specs.Heap.{settled}
 use Rattle.links.proofs.OrderLaws.{before-less, before-greater, before_by}
 use Rattle.links.proofs.heap.before.Goals as goal
@@ -18,7 +18,7 @@ returns-in-Less c = before_by _ _ Less (sym c.in-Less.is ∙ c.total_cmp-o.ensur
 
 pub returns-in-Equal : goal.returns-in-Equal
 unfolding settled
-returns-in-Equal c = (λ i. ltb (c.index_of_node.ensures i) (c.index_of_node-in-Equal.ensures i)) ∙ before_by _ _ Equal (sym c.in-Equal.is ∙ c.total_cmp-o.ensures)
+returns-in-Equal c = (λ i. ltb (c.from.ensures i) (c.from-in-Equal.ensures i)) ∙ before_by _ _ Equal (sym c.in-Equal.is ∙ c.total_cmp-o.ensures)
 
 pub returns-in-Greater : goal.returns-in-Greater
 unfolding settled

@@ -36,8 +36,5 @@ nonzero_div-p-2 c = spaced _ _ _ c.spacing-k.ensures
 pub nonzero_div-q-2 : goal.nonzero_div-q-2
 nonzero_div-q-2 c = spaced _ _ _ c.spacing-k.ensures
 
-pub centre_at-end-requires : goal.centre_at-end-requires
-centre_at-end-requires c = record { sides = c.requires.sides; k_bound = place_in _ _ _ c.requires.p_lt_nx; k_bound_2 = place_in _ _ _ c.requires.q_lt_ny }
-
 pub returns : goal.returns
 returns c = lattice_is _ _ _ _ _ _ _ _ _ _ _ c.spacing-k.ensures c.across-gx.ensures c.across-gy.ensures c.node_at-start.ensures c.node_at-goal.ensures c.centre_at-end.ensures

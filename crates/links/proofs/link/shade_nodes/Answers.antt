@@ -4,5 +4,5 @@ use Rattle.links.proofs.link.shade_nodes.Goals as goal
 
 pub returns : goal.returns
 returns c =
-    let r = shaded_tell _ c.requires.laid c.args.map.now _ c.requires.limited c.requires.takes _ _ c.shade.ensures in
+    let r = shaded_tell _ c.args.net.laid c.args.map.now _ c.args.net.bound _ c.requires.takes _ _ c.shade.ensures in
     record { telling = r.0; work_len_unchanged = r.1 }

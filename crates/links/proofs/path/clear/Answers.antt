@@ -10,7 +10,11 @@ use Rattle.links.proofs.path.clear.Goals as goal
 
 pub link_clear-requires : goal.link_clear-requires
 unfolding within
-link_clear-requires c = let N = c.cells-n.ensures in record { walls = subst (λ (k : ℕ). Walls c.args.s (take (k - 0) (drop 0 c.args.w.now)) c.args.vs.now c.args.lens.now) (sym N) c.requires.fitted.walls; over = c.requires.fitted.over; tiled = c.requires.tiled; tables = rim-at c.args.s c.args.w.now _ N _ c.rim-rim.ensures _ c.tables_end-end.ensures c.requires.fitted.tables }
+link_clear-requires c = let N = c.cells-n.ensures in
+    record {
+      walls = subst (λ (k : ℕ). Walls c.args.s (take (k - 0) (drop 0 c.args.w.now)) c.args.vs.now c.args.lens.now) (sym N) c.requires.fitted.walls;
+      tables = rim-at c.args.s c.args.w.now _ N _ c.rim-rim.ensures _ c.tables_end-end.ensures c.requires.fitted.tables;
+    }
 
 pub returns : goal.returns
 unfolding within

@@ -5,23 +5,8 @@ use native.Mathlib.Omega.{arith}
 use Rattle.links.proofs.ShortenLaws.{far-found, far_more, far_none}
 use Rattle.links.proofs.path.farthest.Goals as goal
 
-pub loop-k-init : goal.loop-k-init
-loop-k-init c = (c.requires.first_le_end, (omega arith, refl))
-
-pub overflow_sub-k : goal.overflow_sub-k
-overflow_sub-k c = omega (arith, c.loop-k-test.true)
-
-pub point-p-requires : goal.point-p-requires
-point-p-requires c = let i = c.loop-k.invariant in record { sides = c.requires.fitted.over.sides; s_in_bounds = omega (arith, c.requires.fitted.long); k_bound = omega (arith, c.loop-k-test.true, i.1.0, c.requires.end_bound) }
-
-pub clear-requires : goal.clear-requires
-clear-requires c = record { fitted = c.requires.fitted; tiled = c.requires.tiled }
-
 pub returns-then-clear : goal.returns-then-clear
 returns-then-clear c = let l = c.loop-k in far-found _ _ _ _ l.k c.loop-k-test.true _ (c.clear.ensures ∙ ap (clear_in _ _ _ _ _ _) c.point-p.ensures) c.if-clear.true ∙ l.invariant.1.1
-
-pub loop-k-smaller : goal.loop-k-smaller
-loop-k-smaller c = omega (arith, c.loop-k-test.true)
 
 pub loop-k-preserved : goal.loop-k-preserved
 loop-k-preserved c = let l = c.loop-k in let h = c.loop-k-test.true in (omega arith, (omega (arith, l.invariant.1.0), far_more _ _ _ _ l.k h _ (c.clear.ensures ∙ ap (clear_in _ _ _ _ _ _) c.point-p.ensures) c.if-clear.false ∙ l.invariant.1.1))

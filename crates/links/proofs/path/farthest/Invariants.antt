@@ -7,6 +7,3 @@ use Rattle.links.proofs.path.farthest.Given as goal
 
 abbrev pub invariant-loop-k : goal.invariant-loop-k
 invariant-loop-k l = (l.first ≤ l.k) × ((l.k ≤ l.end) × (farthest_of (clear_in l.s l.vs l.lens l.map l.w) (vertex_of (path_in l.s l.w)) l.here l.first (l.k - l.first) ≡ farthest_of (clear_in l.s l.vs l.lens l.map l.w) (vertex_of (path_in l.s l.w)) l.here l.first (l.end - l.first)))
-
-abbrev pub decreases-loop-k : goal.decreases-loop-k
-decreases-loop-k l = l.k

@@ -3,21 +3,15 @@ use native.Mathlib.Omega.{arith}
 use Rattle.links.proofs.SearchLaws.{offer_asks, offer_gives, offer_not, grown-none}
 use Rattle.links.proofs.search.offer.Goals as goal
 
-pub bounds-costs-i : goal.bounds-costs-i
-bounds-costs-i c = omega (arith, c.index_of_node-i.ensures, c.requires.node, c.requires.ready.in_costs)
-
-pub bounds-costs-j : goal.bounds-costs-j
-bounds-costs-j c = omega (arith, c.index_of_node-j.ensures, c.requires.node_2, c.requires.ready.in_costs)
-
 pub improve-requires : goal.improve-requires
 improve-requires c =
-    let r = offer_asks _ _ _ _ _ _ c.requires.node c.requires.node_2 _ _ c.centre.ensures c.centre-here.ensures _ c.distance.ensures _ _ c.index_of_node-i.ensures c.index_of_node-j.ensures _ c.nodes_of-n.ensures c.requires.laid c.requires.ready c.requires.m_bound in
+    let r = offer_asks _ _ _ _ _ _ c.requires.node c.requires.node_2 _ _ c.centre.ensures c.centre-here.ensures _ c.distance.ensures _ _ c.from-i.ensures c.from-j.ensures _ c.nodes-n.ensures c.args.net.laid c.requires.ready c.requires.m_bound in
     record { ready = r.0; m_bound = r.1.0; n_bound = r.1.1.0; node_lt_n = r.1.1.1 }
 
 pub returns-then-cand-costs : goal.returns-then-cand-costs
 returns-then-cand-costs c =
-    let r = offer_gives _ _ _ _ _ _ c.requires.node c.requires.node_2 _ _ c.centre.ensures c.centre-here.ensures _ c.distance.ensures _ _ c.index_of_node-i.ensures c.index_of_node-j.ensures _ c.nodes_of-n.ensures c.if-cand-costs.true _ c.distance-then-cand-costs.ensures _ _ c.improve.ensures.costs_after c.improve.ensures.grown in
+    let r = offer_gives _ _ _ _ _ _ c.requires.node c.requires.node_2 _ _ c.centre.ensures c.centre-here.ensures _ c.distance.ensures _ _ c.from-i.ensures c.from-j.ensures _ c.nodes-n.ensures c.if-cand-costs.true _ c.distance-then-cand-costs.ensures _ _ c.improve.ensures.costs_after c.improve.ensures.grown in
     record { costs_after = r.0; grown = r.1.0; upper_bound = r.1.1 }
 
 pub returns : goal.returns
-returns c = record { costs_after = offer_not _ _ _ _ _ _ c.requires.node c.requires.node_2 _ _ c.centre.ensures c.centre-here.ensures _ c.distance.ensures _ _ c.index_of_node-i.ensures c.index_of_node-j.ensures c.if-cand-costs.false; grown = grown-none _ _ _ _ c.requires.ready; upper_bound = omega arith }
+returns c = record { costs_after = offer_not _ _ _ _ _ _ c.requires.node c.requires.node_2 _ _ c.centre.ensures c.centre-here.ensures _ c.distance.ensures _ _ c.from-i.ensures c.from-j.ensures c.if-cand-costs.false; grown = grown-none _ _ _ _ c.requires.ready; upper_bound = omega arith }

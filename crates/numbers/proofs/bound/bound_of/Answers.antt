@@ -4,9 +4,6 @@ use Rattle.floats.proofs.OrderLaws.{lt_numbers}
 use Rattle.numbers.proofs.BoundLaws.{answers_least, answers_near, answers_huge, answers_none}
 use Rattle.numbers.proofs.bound.bound_of.Goals as goal
 
-pub float_to_bits-k : goal.float_to_bits-k
-float_to_bits-k c = subst (λ (b : Bool). T (not b)) (sym (lt_numbers _ _ c.if-square.true).1) tt
-
 pub returns-then-k-lt4 : goal.returns-then-k-lt4
 returns-then-k-lt4 c =
     let r = answers_least _ _ _ refl c.if-square.true c.if-k-lt4.true c.search.ensures in

@@ -2,8 +2,8 @@
 use Rattle.loops.specs.Loop.{on, turn}
 use Rattle.loops.proofs.LoopLaws.{Going}
 use Rattle.numbers.specs.Bound.{look_at}
-use Rattle.numbers.specs.declared.bound.Bound.TheVariants.{Untold}
+use Rattle.std.proofs.Common.{None}
 use Rattle.numbers.proofs.bound.search.Given as goal
 
 abbrev pub invariant-loop-i : goal.invariant-loop-i
-invariant-loop-i l = Going (turn (look_at l.r l.k)) 0 8 (on Untold) (on Untold) l.i
+invariant-loop-i l = Going (turn (look_at l.r l.k)) 0 8 (on None) (on None) l.i

@@ -12,9 +12,6 @@ cut-requires c = record { x_value = c.if-x.true; pos_value = c.if-x-2.true }
 pub overflow_cast-result : goal.overflow_cast-result
 overflow_cast-result c = omega (arith, c.cut.ensures, to_unsigned-lt 32 c.args.x)
 
-pub returns-then-x-2 : goal.returns-then-x-2
-returns-then-x-2 c = c.cut.ensures
-
 pub returns-else-x-2 : goal.returns-else-x-2
 unfolding of_bits
 returns-else-x-2 c = over 32 c.args.x (over_minus_one c.args.x c.if-x.true) c.if-x-2.false

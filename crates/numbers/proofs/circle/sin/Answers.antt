@@ -12,10 +12,6 @@ at k c e =
     let a = c.args.a in
     ap (λ (j : ℕ). sin_at j (rest c.quadrant-q.result a)) (sym e) ∙ ap (λ (j : ℕ). sin_at j (rest j a)) c.quadrant-q.ensures.0
 
-pub int_to_float-y : goal.int_to_float-y
-unfolding in_float
-int_to_float-y c = le→leb c.quadrant-q.result 9007199254740992 (le_trans c.quadrant-q.ensures.1 (lit≤ tt))
-
 pub returns-then-q-eq0 : goal.returns-then-q-eq0
 unfolding sin_at
 returns-then-q-eq0 c = c.sin_series.ensures ∙ at 0 (goal.at.returns-then-q-eq0 c).After-row_known-1 c.if-q-eq0.true

@@ -4,17 +4,8 @@ use lib.Count.{leading_le}
 use Rattle.numbers.proofs.PartLaws.{z_low, z_high, shifted}
 use Rattle.numbers.proofs.narrow.moved.Goals as goal
 
-pub overflow_cast-z : goal.overflow_cast-z
-overflow_cast-z c = omega (arith, leading_le 64 c.args.q)
-
 pub overflow_sub-result : goal.overflow_sub-result
 overflow_sub-result c = z_low c.args.q c.args.j c.requires.q_nonzero c.requires.q_bound
-
-pub overflow_shl-result : goal.overflow_shl-result
-overflow_shl-result c = omega (arith, leading_le 64 c.args.q, z_low c.args.q c.args.j c.requires.q_nonzero c.requires.q_bound)
-
-pub overflow_sub-result-2 : goal.overflow_sub-result-2
-overflow_sub-result-2 c = z_high c.args.q c.args.j c.requires.q_nonzero c.requires.q_bound
 
 pub returns : goal.returns
 returns c = shifted c.args.q c.args.j c.requires.q_nonzero c.requires.q_bound

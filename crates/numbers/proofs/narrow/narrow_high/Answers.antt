@@ -42,9 +42,6 @@ is c =
       )
     ]
 
-pub float_to_bits-bits : goal.float_to_bits-bits
-float_to_bits-bits c = no_nan_high c.args.x c.requires
-
 pub overflow_sub-bits : goal.overflow_sub-bits
 overflow_sub-bits c = omega (arith, (field (goal.at.overflow_sub-bits c).Start).lo)
 
@@ -64,9 +61,6 @@ overflow_add-p c = omega (arith, c.moved-p.ensures.few, c.moved-p.ensures.hi, (f
 
 pub nearest_shift-b-requires : goal.nearest_shift-b-requires
 nearest_shift-b-requires c = record { m_bound = omega (arith, c.moved-p.ensures.few, c.moved-p.ensures.hi, (field (goal.at.nearest_shift-b-requires c).Start).hi); d_nonzero = omega arith; d_bound = omega arith }
-
-pub overflow_cast-result : goal.overflow_cast-result
-overflow_cast-result c = omega (arith, (is (goal.at.overflow_cast-result c).Joined-b-lt2139095040).0)
 
 pub float_from_bits-result : goal.float_from_bits-result
 float_from_bits-result c = no_nan_bits _ (is (goal.at.float_from_bits-result c).Joined-b-lt2139095040).0

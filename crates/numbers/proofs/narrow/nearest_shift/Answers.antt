@@ -32,15 +32,6 @@ module _ (d : ℕ) (lo : 0 < d) (hi : d < 64) where
       twice : (p : ℕ) → 2 * p ≡ p + p
       twice p = omega arith
 
-pub overflow_sub-result : goal.overflow_sub-result
-overflow_sub-result c = some c.args.d c.requires.d_nonzero c.requires.d_bound
-
-pub overflow_add-result : goal.overflow_add-result
-overflow_add-result c = omega (arith, few c.args.d c.requires.d_nonzero c.requires.d_bound)
-
-pub overflow_add-result-2 : goal.overflow_add-result-2
-overflow_add-result-2 c = omega (arith, few c.args.d c.requires.d_nonzero c.requires.d_bound)
-
 pub returns : goal.returns
 returns c = let m = c.args.m in
     let d = c.args.d in

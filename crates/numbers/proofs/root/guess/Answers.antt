@@ -6,6 +6,3 @@ use Rattle.numbers.proofs.root.guess.Goals as goal
 
 pub float_from_bits-v : goal.float_from_bits-v
 float_from_bits-v c = no_nan_bits _ (omega (arith, c.requires))
-
-pub float_to_bits-result : goal.float_to_bits-result
-float_to_bits-result c = no_nan_below _ _ c.if-r.true

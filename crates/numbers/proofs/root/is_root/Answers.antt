@@ -10,21 +10,6 @@ pub float_from_bits-t-6 : goal.float_from_bits-t-6
 unfolding nan_bits
 float_from_bits-t-6 c = tt
 
-pub float_to_bits-r : goal.float_to_bits-r
-float_to_bits-r c = no_nan_below _ _ c.if-r.true
-
-pub overflow_mul-m : goal.overflow_mul-m
-overflow_mul-m c = omega (arith, at_most c.args.m c.args.e, c.requires.hi)
-
-pub overflow_add-m : goal.overflow_add-m
-overflow_add-m c = omega (arith, at_most c.args.m c.args.e, c.requires.hi)
-
-pub is_near-requires : goal.is_near-requires
-is_near-requires c = omega (arith, at_most c.args.m c.args.e, c.requires.hi)
-
 pub returns-then-r : goal.returns-then-r
 returns-then-r c = λ h.
     root_by_digits _ _ _ _ (subst T (sym c.well_formed.0.1) tt) c.requires c.wrapping_sub_u64-q.ensures.value (c.is_near.ensures h)
-
-pub returns : goal.returns
-returns c = λ h. never h

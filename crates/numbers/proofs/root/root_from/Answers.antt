@@ -3,18 +3,6 @@ use Rattle.std.proofs.Common.{arith}
 use Rattle.numbers.proofs.RootLaws.{at_most, result, root-few, no_nan_bits}
 use Rattle.numbers.proofs.root.root_from.Goals as goal
 
-pub overflow_mul-m : goal.overflow_mul-m
-overflow_mul-m c = omega (arith, at_most c.args.m c.args.e)
-
-pub overflow_add-m : goal.overflow_add-m
-overflow_add-m c = omega (arith, at_most c.args.m c.args.e)
-
-pub near_root-q-requires : goal.near_root-q-requires
-near_root-q-requires c = record { hi_bound = omega (arith, at_most c.args.m c.args.e, c.requires.hi); bits_bound = omega (arith, c.requires.hi) }
-
-pub overflow_add-result-2 : goal.overflow_add-result-2
-overflow_add-result-2 c = omega (arith, root-few c.args.m c.args.e c.near_root-q.result c.requires c.near_root-q.ensures)
-
 pub float_from_bits-result : goal.float_from_bits-result
 float_from_bits-result c = no_nan_bits _ (root-few c.args.m c.args.e c.near_root-q.result c.requires c.near_root-q.ensures)
 

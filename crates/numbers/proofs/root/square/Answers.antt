@@ -25,23 +25,5 @@ module _ (s : ℕ) (S : s < 2 ^ 55) where
   aa : a * a < 2 ^ 56
   aa = product_lt 28 28 a a a_lt a_lt
 
-pub overflow_mul-c : goal.overflow_mul-c
-overflow_mul-c c = omega (arith, ab c.args.s c.requires)
-
-pub overflow_mul-sum : goal.overflow_mul-sum
-overflow_mul-sum c = omega (arith, bb c.args.s c.requires)
-
-pub overflow_add-sum : goal.overflow_add-sum
-overflow_add-sum c = omega (arith, bb c.args.s c.requires)
-
-pub overflow_mul-result : goal.overflow_mul-result
-overflow_mul-result c = omega (arith, aa c.args.s c.requires)
-
-pub overflow_add-result : goal.overflow_add-result
-overflow_add-result c = omega (arith, aa c.args.s c.requires, ab c.args.s c.requires)
-
-pub overflow_add-result-2 : goal.overflow_add-result-2
-overflow_add-result-2 c = omega (arith, aa c.args.s c.requires, ab c.args.s c.requires, bb c.args.s c.requires)
-
 pub returns : goal.returns
 returns c = (sym (halves c.args.s), mod-lt _ (pow_pos 54), omega (arith, aa c.args.s c.requires, ab c.args.s c.requires, bb c.args.s c.requires))

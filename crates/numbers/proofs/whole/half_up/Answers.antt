@@ -10,14 +10,8 @@ under c = small c.args.x c.requires.x_value c.requires.pos_value
 pub parts-p-requires : goal.parts-p-requires
 parts-p-requires c = (under (goal.at.parts-p-requires c).Start).is_pos
 
-pub overflow_mul-result : goal.overflow_mul-result
-overflow_mul-result c = omega (arith, c.parts-p.ensures.hi)
-
 pub overflow_sub-result : goal.overflow_sub-result
 overflow_sub-result c = low_e c.args.x c.parts-p.result.m c.parts-p.result.e (under (goal.at.overflow_sub-result c).Start) c.parts-p.ensures
-
-pub overflow_add-result : goal.overflow_add-result
-overflow_add-result c = omega (arith, c.parts-p.ensures.hi, div-le_self (2 * c.parts-p.result.m) (2 ^ (1126 - c.parts-p.result.e)))
 
 pub returns-then-e-lt1073 : goal.returns-then-e-lt1073
 returns-then-e-lt1073 c = nothing c.args.x c.parts-p.result.m c.parts-p.result.e (under (goal.at.returns-then-e-lt1073 c).Start) c.parts-p.ensures c.if-e-lt1073.true

@@ -16,5 +16,5 @@ returns-in_default c =
 pub returns : goal.returns
 unfolding within
 returns c =
-    let r = blend_some _ _ _ c.requires.m_in_bounds _ _ _ _ c.choose-b.ensures _ _ c.in-By.is _ c.bend.ensures.guide_len_unchanged c.bend.ensures.guide_after in
+    let r = blend_some _ _ _ c.requires.m_in_bounds _ _ _ _ c.choose-b.ensures _ c.in-Some.is _ c.bend.ensures.guide_len_unchanged c.bend.ensures.guide_after in
     record { value = r.0; w_after = r.1 }

@@ -6,24 +6,24 @@ use mathlib.Core.Path.{ap}
 use mathlib.Core.Bool.{not}
 use Rattle.passes.proofs.shifts.find_shift.Goals as goal
 
-pub returns-in-At : goal.returns-in-At
-returns-in-At c = search_eased _ _ _ _ _ _ _ _ _ _ c.ease-eased.ensures _ _ _ c.in-At.is
+pub returns-in-Some : goal.returns-in-Some
+returns-in-Some c = search_eased _ _ _ _ _ _ _ _ _ _ c.ease-eased.ensures _ c.in-Some.is
 
-pub loop-tries-init : goal.loop-tries-init
-loop-tries-init c = going_none _ _ _ _
+pub loop-try-init : goal.loop-try-init
+loop-try-init c = going_none _ _ _ _
 
-pub loop-tries-preserved : goal.loop-tries-preserved
-loop-tries-preserved c = going_on _ _ _ _ _ _ _ c.loop-tries.invariant (omega arith) (look-on _ _ _ _ _ _ _ _ _ _ (ap not c.if-not-sh-most.false) _ c.try_shift-t.ensures c.in_default-f.is)
+pub loop-try-preserved : goal.loop-try-preserved
+loop-try-preserved c = going_on _ _ _ _ _ _ _ c.loop-try.invariant (omega arith) (look-on _ _ _ _ _ _ _ _ _ _ (ap not c.if-not-sh-most.false) _ c.try_shift-t.ensures c.in_default-found.is)
 
-pub returns-then-tries-ge8193 : goal.returns-then-tries-ge8193
-returns-then-tries-ge8193 c = search_outward _ _ _ _ _ _ _ _ _ _ c.ease-eased.ensures c.in_default.is _
-    (outward-on _ _ _ _ _ _ _ _ _ _ _ (going_end _ _ _ _ _ _ c.loop-tries.invariant c.if-tries-ge8193.true))
+pub returns-after-loop-try : goal.returns-after-loop-try
+returns-after-loop-try c = search_outward _ _ _ _ _ _ _ _ _ _ c.ease-eased.ensures c.in_default.is _
+    (outward-on _ _ _ _ _ _ _ _ _ _ _ (going_end _ _ _ _ _ _ c.loop-try.invariant c.loop-try-test.false))
 
 pub returns-then-not-sh-most : goal.returns-then-not-sh-most
 returns-then-not-sh-most c = search_outward _ _ _ _ _ _ _ _ _ _ c.ease-eased.ensures c.in_default.is _
-    (outward-out _ _ _ _ _ _ _ _ _ _ (going_out _ _ _ _ _ _ _ c.loop-tries.invariant (omega arith) (look-far _ _ _ _ _ _ _ _ _ _ (ap not c.if-not-sh-most.true))))
+    (outward-out _ _ _ _ _ _ _ _ _ _ (going_out _ _ _ _ _ _ _ c.loop-try.invariant (omega arith) (look-far _ _ _ _ _ _ _ _ _ _ (ap not c.if-not-sh-most.true))))
 
-pub returns-in-At-f : goal.returns-in-At-f
-returns-in-At-f c = search_outward _ _ _ _ _ _ _ _ _ _ c.ease-eased.ensures c.in_default.is _
-    (outward-out _ _ _ _ _ _ _ _ _ _ (going_out _ _ _ _ _ _ _ c.loop-tries.invariant (omega arith)
-    (look-found _ _ _ _ _ _ _ _ _ _ (ap not c.if-not-sh-most.false) _ c.try_shift-t.ensures _ _ _ c.in-At-f.is)))
+pub returns-in-Some-found : goal.returns-in-Some-found
+returns-in-Some-found c = search_outward _ _ _ _ _ _ _ _ _ _ c.ease-eased.ensures c.in_default.is _
+    (outward-out _ _ _ _ _ _ _ _ _ _ (going_out _ _ _ _ _ _ _ c.loop-try.invariant (omega arith)
+    (look-found _ _ _ _ _ _ _ _ _ _ (ap not c.if-not-sh-most.false) _ c.try_shift-t.ensures _ c.in-Some-found.is)))

@@ -6,4 +6,4 @@ pub returns-in_default : goal.returns-in_default
 returns-in_default c = near_none _ _ c.in_default.is
 
 pub returns : goal.returns
-returns c = near-some _ _ _ c.in-At.is _ c.nearest.ensures
+returns c = near-some _ _ _ c.in-Some.is _ c.nearest.ensures

@@ -60,7 +60,10 @@ pub loop-k-init : goal.loop-k-init
 loop-k-init c = (going_none _ _ _ _, safe_again _ _ _ c.outer.invariant.1)
 
 pub find_shift-f-requires : goal.find_shift-f-requires
-find_shift-f-requires c = let h = all-safe (goal.at.find_shift-f-requires c).At-loop-k in record { walls = c.requires.walls; tables = c.requires.tables; over = over-same _ _ _ h.cells-long c.requires.usable.over; tiled = tiled_fewer _ _ _ _ h.fewer c.requires.tiled }
+find_shift-f-requires c = record { walls = c.requires.walls; tables = c.requires.tables }
+
+pub invariant_of-ground : goal.invariant_of-ground
+invariant_of-ground c = let h = all-safe (goal.at.invariant_of-ground c).At-loop-k in record { over = over-same _ _ _ h.cells-long c.requires.usable.over; tiled = tiled_fewer _ _ _ _ h.fewer c.requires.tiled }
 
 pub overflow_add-kept : goal.overflow_add-kept
 overflow_add-kept c = omega (arith, (all-safe (goal.at.overflow_add-kept c).At-loop-k).room, out-same (goal.at.overflow_add-kept c).At-outer, c.well_formed)
@@ -77,7 +80,7 @@ loop-k-smaller c = omega (arith, c.loop-k-test.true)
 pub loop-k-preserved : goal.loop-k-preserved
 loop-k-preserved c = (
   going_on _ _ _ _ _ _ _ c.loop-k.invariant.0 c.loop-k-test.true
-      (turn_on _ _ _ _ _ _ _ c.max_shift-most.ensures _ _ c.sample-at.ensures c.find_shift-f.ensures _ _ _ c.in-At.is _ c.gap.ensures c.if-gap.false
+      (turn_on _ _ _ _ _ _ _ c.max_shift-most.ensures _ _ c.sample-at.ensures c.find_shift-f.ensures _ c.in-Some.is _ c.gap.ensures c.if-gap.false
       (room_then _ _ _ ((all-safe (goal.at.loop-k-preserved c).At-loop-k).out-long ∙ out-same (goal.at.loop-k-preserved c).At-outer) c.if-room-kept-2.false) _ c.advance-t.ensures),
   safe_on _ _ _ _ _ _ _ _ (safe_spent _ _ _ _ c.loop-k.invariant.1) (room_then _ _ _ (c.outer.invariant.1.out-long ∙ out-same (goal.at.loop-k-preserved c).At-outer) c.if-room-kept-2.false) c.advance-t.ensures,
 )
@@ -125,7 +128,7 @@ pub shape_of-triples-then-gap : goal.shape_of-triples-then-gap
 shape_of-triples-then-gap c = (all-safe (goal.at.shape_of-triples-then-gap c).At-loop-k).out-long ∙ out-same (goal.at.shape_of-triples-then-gap c).At-outer
 
 pub returns-then-gap : goal.returns-then-gap
-returns-then-gap c = leaves (goal.at.returns-then-gap c).In-loop-k _ (turn_gap _ _ _ _ _ _ _ c.max_shift-most.ensures _ _ c.sample-at.ensures c.find_shift-f.ensures _ _ _ c.in-At.is _ c.gap.ensures c.if-gap.true)
+returns-then-gap c = leaves (goal.at.returns-then-gap c).In-loop-k _ (turn_gap _ _ _ _ _ _ _ c.max_shift-most.ensures _ _ c.sample-at.ensures c.find_shift-f.ensures _ c.in-Some.is _ c.gap.ensures c.if-gap.true)
 
 pub shape_of-map-then-room-kept-2 : goal.shape_of-map-then-room-kept-2
 shape_of-map-then-room-kept-2 c = (all-safe (goal.at.shape_of-map-then-room-kept-2 c).At-loop-k).cells-long
@@ -137,5 +140,5 @@ pub shape_of-triples-then-room-kept-2 : goal.shape_of-triples-then-room-kept-2
 shape_of-triples-then-room-kept-2 c = (all-safe (goal.at.shape_of-triples-then-room-kept-2 c).At-loop-k).out-long ∙ out-same (goal.at.shape_of-triples-then-room-kept-2 c).At-outer
 
 pub returns-then-room-kept-2 : goal.returns-then-room-kept-2
-returns-then-room-kept-2 c = leaves (goal.at.returns-then-room-kept-2 c).In-loop-k _ (turn-full _ _ _ _ _ _ _ c.max_shift-most.ensures _ _ c.sample-at.ensures c.find_shift-f.ensures _ _ _ c.in-At.is _ c.gap.ensures c.if-gap.false
+returns-then-room-kept-2 c = leaves (goal.at.returns-then-room-kept-2 c).In-loop-k _ (turn-full _ _ _ _ _ _ _ c.max_shift-most.ensures _ _ c.sample-at.ensures c.find_shift-f.ensures _ c.in-Some.is _ c.gap.ensures c.if-gap.false
     (full_then _ _ _ ((all-safe (goal.at.returns-then-room-kept-2 c).At-loop-k).out-long ∙ out-same (goal.at.returns-then-room-kept-2 c).At-outer) c.if-room-kept-2.true))

@@ -5,9 +5,6 @@ use Rattle.pieces.specs.Piece.{put_row}
 use Rattle.pieces.proofs.row.put_row.Goals as goal
 use Rattle.pieces.proofs.row.put_row.Goals.{else-p, then-p}
 
-pub bounds-rows-i-2 : goal.bounds-rows-i-2
-bounds-rows-i-2 c = simp length-set (omega arith)
-
 pub returns : goal.returns
 unfolding put_row
 returns c = elim c.if-p.branch [ then-p w ↦ rw (w.rows-is, w.if-p.true) | else-p w ↦ rw (w.rows-is, w.if-p.false) ]

@@ -1,6 +1,7 @@
 -- `plan::turns::plan` meets its contract. Assumes nothing.
-use mathlib.Core.Path.{◌∙◌}
-use Prim.Native.Nat.{◌-◌}
+use mathlib.Core.Path.{ap, ◌∙◌}
+use Rattle.std.specs.Prelude.{Ok}
+use Rattle.std.proofs.lemmas.Result.{err_from_is_err_and}
 use native.Mathlib.Omega.{arith}
 use Rattle.plan.proofs.TurnsLaws.{planning_none, round_asked, plan_spent, plan_ends, planning_more, plan_next, plan_done, plan_refused}
 use Rattle.plan.proofs.turns.plan.Goals as goal
@@ -31,79 +32,80 @@ returns-then-p-gt-MAX_WORK c =
     let r = plan_spent c.args.s c.args.vs.now c.args.lens.now c.args.pref c.args.b.now c.args.u.now c.args.f.now c.args.w.now c.args.triples.now c.args.rows.now c.requires.standing c.loop-k.b c.loop-k.u c.loop-k.f c.loop-k.w c.loop-k.triples c.loop-k.rows c.loop-k.p c.loop-k.k c.loop-k.invariant c.loop-k-test.true c.if-p-gt-MAX_WORK.true in
     record { result_after = r.0; end_kept = r.1 }
 
-pub round-a-requires : goal.round-a-requires
-round-a-requires c =
+pub round-requires : goal.round-requires
+round-requires c =
     let r = round_asked c.args.s c.args.vs.now c.args.lens.now c.args.pref c.args.b.now c.args.u.now c.args.f.now c.args.w.now c.args.triples.now c.args.rows.now c.requires.standing c.loop-k.b c.loop-k.u c.loop-k.f c.loop-k.w c.loop-k.triples c.loop-k.rows c.loop-k.p c.loop-k.k c.loop-k.invariant c.requires.s_in_bounds c.loop-k-test.true in
     record { standing = r.0; s_in_bounds = r.1.0; listed = r.1.1.0; given_bound = r.1.1.1 }
 
 pub shape_of-b-in-Next : goal.shape_of-b-in-Next
-shape_of-b-in-Next c = c.round-a.ensures.kept.cells.long ∙ c.loop-k.invariant.kept.cells.long
+shape_of-b-in-Next c = c.round.ensures.kept.cells.long ∙ c.loop-k.invariant.kept.cells.long
 
 pub shape_of-u-in-Next : goal.shape_of-u-in-Next
-shape_of-u-in-Next c = c.round-a.ensures.kept.words_long ∙ c.loop-k.invariant.kept.words_long
+shape_of-u-in-Next c = c.round.ensures.kept.words_long ∙ c.loop-k.invariant.kept.words_long
 
 pub shape_of-f-in-Next : goal.shape_of-f-in-Next
-shape_of-f-in-Next c = c.round-a.ensures.kept.singles-long ∙ c.loop-k.invariant.kept.singles-long
+shape_of-f-in-Next c = c.round.ensures.kept.singles-long ∙ c.loop-k.invariant.kept.singles-long
 
 pub shape_of-w-in-Next : goal.shape_of-w-in-Next
-shape_of-w-in-Next c = c.round-a.ensures.kept.walls.long ∙ c.loop-k.invariant.kept.walls.long
+shape_of-w-in-Next c = c.round.ensures.kept.walls.long ∙ c.loop-k.invariant.kept.walls.long
 
 pub shape_of-triples-in-Next : goal.shape_of-triples-in-Next
-shape_of-triples-in-Next c = c.round-a.ensures.kept.out-long ∙ c.loop-k.invariant.kept.out-long
+shape_of-triples-in-Next c = c.round.ensures.kept.out-long ∙ c.loop-k.invariant.kept.out-long
 
 pub shape_of-rows-in-Next : goal.shape_of-rows-in-Next
-shape_of-rows-in-Next c = c.round-a.ensures.kept.rows_long ∙ c.loop-k.invariant.kept.rows_long
+shape_of-rows-in-Next c = c.round.ensures.kept.rows_long ∙ c.loop-k.invariant.kept.rows_long
 
 pub returns-in-Next : goal.returns-in-Next
 returns-in-Next c =
-    let r = plan_next c.args.s c.args.vs.now c.args.lens.now c.args.pref c.args.b.now c.args.u.now c.args.f.now c.args.w.now c.args.triples.now c.args.rows.now c.requires.standing c.loop-k.b c.loop-k.u c.loop-k.f c.loop-k.w c.loop-k.triples c.loop-k.rows c.loop-k.p c.loop-k.k c.loop-k.invariant c.loop-k-test.true c.if-p-gt-MAX_WORK.false _ _ _ _ _ _ _ c.round-a.ensures.result_after c.round-a.ensures.kept _ c.in-Next.is in
+    let r = plan_next c.args.s c.args.vs.now c.args.lens.now c.args.pref c.args.b.now c.args.u.now c.args.f.now c.args.w.now c.args.triples.now c.args.rows.now c.requires.standing c.loop-k.b c.loop-k.u c.loop-k.f c.loop-k.w c.loop-k.triples c.loop-k.rows c.loop-k.p c.loop-k.k c.loop-k.invariant c.loop-k-test.true c.if-p-gt-MAX_WORK.false _ _ _ _ _ _ _ c.round.ensures.result_after c.round.ensures.kept _ (c.in_ok-a.was ∙ ap Ok c.in-Next.is) in
     record { result_after = r.0; end_kept = r.1 }
 
 pub shape_of-b-in-Done : goal.shape_of-b-in-Done
-shape_of-b-in-Done c = c.round-a.ensures.kept.cells.long ∙ c.loop-k.invariant.kept.cells.long
+shape_of-b-in-Done c = c.round.ensures.kept.cells.long ∙ c.loop-k.invariant.kept.cells.long
 
 pub shape_of-u-in-Done : goal.shape_of-u-in-Done
-shape_of-u-in-Done c = c.round-a.ensures.kept.words_long ∙ c.loop-k.invariant.kept.words_long
+shape_of-u-in-Done c = c.round.ensures.kept.words_long ∙ c.loop-k.invariant.kept.words_long
 
 pub shape_of-f-in-Done : goal.shape_of-f-in-Done
-shape_of-f-in-Done c = c.round-a.ensures.kept.singles-long ∙ c.loop-k.invariant.kept.singles-long
+shape_of-f-in-Done c = c.round.ensures.kept.singles-long ∙ c.loop-k.invariant.kept.singles-long
 
 pub shape_of-w-in-Done : goal.shape_of-w-in-Done
-shape_of-w-in-Done c = c.round-a.ensures.kept.walls.long ∙ c.loop-k.invariant.kept.walls.long
+shape_of-w-in-Done c = c.round.ensures.kept.walls.long ∙ c.loop-k.invariant.kept.walls.long
 
 pub shape_of-triples-in-Done : goal.shape_of-triples-in-Done
-shape_of-triples-in-Done c = c.round-a.ensures.kept.out-long ∙ c.loop-k.invariant.kept.out-long
+shape_of-triples-in-Done c = c.round.ensures.kept.out-long ∙ c.loop-k.invariant.kept.out-long
 
 pub shape_of-rows-in-Done : goal.shape_of-rows-in-Done
-shape_of-rows-in-Done c = c.round-a.ensures.kept.rows_long ∙ c.loop-k.invariant.kept.rows_long
+shape_of-rows-in-Done c = c.round.ensures.kept.rows_long ∙ c.loop-k.invariant.kept.rows_long
 
 pub returns-in-Done : goal.returns-in-Done
 returns-in-Done c =
-    let r = plan_done c.args.s c.args.vs.now c.args.lens.now c.args.pref c.args.b.now c.args.u.now c.args.f.now c.args.w.now c.args.triples.now c.args.rows.now c.requires.standing c.loop-k.b c.loop-k.u c.loop-k.f c.loop-k.w c.loop-k.triples c.loop-k.rows c.loop-k.p c.loop-k.k c.loop-k.invariant c.loop-k-test.true c.if-p-gt-MAX_WORK.false _ _ _ _ _ _ _ c.round-a.ensures.result_after c.round-a.ensures.kept _ c.in-Done.is in
+    let r = plan_done c.args.s c.args.vs.now c.args.lens.now c.args.pref c.args.b.now c.args.u.now c.args.f.now c.args.w.now c.args.triples.now c.args.rows.now c.requires.standing c.loop-k.b c.loop-k.u c.loop-k.f c.loop-k.w c.loop-k.triples c.loop-k.rows c.loop-k.p c.loop-k.k c.loop-k.invariant c.loop-k-test.true c.if-p-gt-MAX_WORK.false _ _ _ _ _ _ _ c.round.ensures.result_after c.round.ensures.kept _ (c.in_ok-a.was ∙ ap Ok c.in-Done.is) in
     record { result_after = r.0; end_kept = r.1 }
 
-pub shape_of-b-in-Refused : goal.shape_of-b-in-Refused
-shape_of-b-in-Refused c = c.round-a.ensures.kept.cells.long ∙ c.loop-k.invariant.kept.cells.long
+pub shape_of-b-in_err-a : goal.shape_of-b-in_err-a
+shape_of-b-in_err-a c = c.round.ensures.kept.cells.long ∙ c.loop-k.invariant.kept.cells.long
 
-pub shape_of-u-in-Refused : goal.shape_of-u-in-Refused
-shape_of-u-in-Refused c = c.round-a.ensures.kept.words_long ∙ c.loop-k.invariant.kept.words_long
+pub shape_of-u-in_err-a : goal.shape_of-u-in_err-a
+shape_of-u-in_err-a c = c.round.ensures.kept.words_long ∙ c.loop-k.invariant.kept.words_long
 
-pub shape_of-f-in-Refused : goal.shape_of-f-in-Refused
-shape_of-f-in-Refused c = c.round-a.ensures.kept.singles-long ∙ c.loop-k.invariant.kept.singles-long
+pub shape_of-f-in_err-a : goal.shape_of-f-in_err-a
+shape_of-f-in_err-a c = c.round.ensures.kept.singles-long ∙ c.loop-k.invariant.kept.singles-long
 
-pub shape_of-w-in-Refused : goal.shape_of-w-in-Refused
-shape_of-w-in-Refused c = c.round-a.ensures.kept.walls.long ∙ c.loop-k.invariant.kept.walls.long
+pub shape_of-w-in_err-a : goal.shape_of-w-in_err-a
+shape_of-w-in_err-a c = c.round.ensures.kept.walls.long ∙ c.loop-k.invariant.kept.walls.long
 
-pub shape_of-triples-in-Refused : goal.shape_of-triples-in-Refused
-shape_of-triples-in-Refused c = c.round-a.ensures.kept.out-long ∙ c.loop-k.invariant.kept.out-long
+pub shape_of-triples-in_err-a : goal.shape_of-triples-in_err-a
+shape_of-triples-in_err-a c = c.round.ensures.kept.out-long ∙ c.loop-k.invariant.kept.out-long
 
-pub shape_of-rows-in-Refused : goal.shape_of-rows-in-Refused
-shape_of-rows-in-Refused c = c.round-a.ensures.kept.rows_long ∙ c.loop-k.invariant.kept.rows_long
+pub shape_of-rows-in_err-a : goal.shape_of-rows-in_err-a
+shape_of-rows-in_err-a c = c.round.ensures.kept.rows_long ∙ c.loop-k.invariant.kept.rows_long
 
-pub returns-in-Refused : goal.returns-in-Refused
-returns-in-Refused c =
-    let r = plan_refused c.args.s c.args.vs.now c.args.lens.now c.args.pref c.args.b.now c.args.u.now c.args.f.now c.args.w.now c.args.triples.now c.args.rows.now c.requires.standing c.loop-k.b c.loop-k.u c.loop-k.f c.loop-k.w c.loop-k.triples c.loop-k.rows c.loop-k.p c.loop-k.k c.loop-k.invariant c.loop-k-test.true c.if-p-gt-MAX_WORK.false _ _ _ _ _ _ _ c.round-a.ensures.result_after c.round-a.ensures.kept _ c.in-Refused.is in
-    record { result_after = r.0; end_kept = r.1 }
+pub returns-in_err-a : goal.returns-in_err-a
+returns-in_err-a c =
+    let r = plan_refused c.args.s c.args.vs.now c.args.lens.now c.args.pref c.args.b.now c.args.u.now c.args.f.now c.args.w.now c.args.triples.now c.args.rows.now c.requires.standing c.loop-k.b c.loop-k.u c.loop-k.f c.loop-k.w c.loop-k.triples c.loop-k.rows c.loop-k.p c.loop-k.k c.loop-k.invariant c.loop-k-test.true c.if-p-gt-MAX_WORK.false _ _ _ _ _ _ _ c.round.ensures.result_after c.round.ensures.kept _ c.in_err-a.was in
+    let p = err_from_is_err_and c.from_residual.result c.from_residual.ensures.1 in
+    rw (p.1, p.2) (record { result_after = r.0; end_kept = r.1 })
 
 pub overflow_step-k : goal.overflow_step-k
 overflow_step-k c = omega (arith, c.loop-k-test.true)
@@ -112,7 +114,7 @@ pub loop-k-smaller : goal.loop-k-smaller
 loop-k-smaller c = omega (arith, c.loop-k-test.true)
 
 pub loop-k-preserved : goal.loop-k-preserved
-loop-k-preserved c = planning_more c.args.s c.args.vs.now c.args.lens.now c.args.pref c.args.b.now c.args.u.now c.args.f.now c.args.w.now c.args.triples.now c.args.rows.now c.requires.standing c.loop-k.b c.loop-k.u c.loop-k.f c.loop-k.w c.loop-k.triples c.loop-k.rows c.loop-k.p c.loop-k.k c.loop-k.invariant c.loop-k-test.true c.if-p-gt-MAX_WORK.false _ _ _ _ _ _ _ c.round-a.ensures.result_after c.round-a.ensures.kept _ c.in-Again.is
+loop-k-preserved c = planning_more c.args.s c.args.vs.now c.args.lens.now c.args.pref c.args.b.now c.args.u.now c.args.f.now c.args.w.now c.args.triples.now c.args.rows.now c.requires.standing c.loop-k.b c.loop-k.u c.loop-k.f c.loop-k.w c.loop-k.triples c.loop-k.rows c.loop-k.p c.loop-k.k c.loop-k.invariant c.loop-k-test.true c.if-p-gt-MAX_WORK.false _ _ _ _ _ _ _ c.round.ensures.result_after c.round.ensures.kept _ (c.in_ok-a.was ∙ ap Ok c.in-Again.is)
 
 pub shape_of-b : goal.shape_of-b
 shape_of-b c = c.loop-k.invariant.kept.cells.long

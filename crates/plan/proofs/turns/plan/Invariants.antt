@@ -1,5 +1,4 @@
 -- `plan::turns::plan` meets its contract. Assumes nothing.
-use Prim.Native.Nat.{◌-◌}
 use Rattle.plan.proofs.TurnsLaws.{Planning}
 use Rattle.plan.proofs.turns.plan.Given as goal
 

@@ -5,14 +5,14 @@ use Rattle.planner.proofs.FitLaws.{outcome-refused, outcome_planned, outcome-tol
 use Rattle.planner.proofs.outcome.adaptive_clear.Goals as goal
 
 pub plan_fit-requires : goal.plan_fit-requires
-plan_fit-requires c = judged_fit _ _ _ _ _ _ _ (sym c.judge-j.ensures ∙ c.in-Fit.is)
+plan_fit-requires c = judged_fit _ _ _ _ _ _ _ (sym c.judge.ensures ∙ c.in-Ok.is)
 
-pub returns-in-Refused : goal.returns-in-Refused
-returns-in-Refused c =
-    let r = outcome-told _ _ _ _ (outcome-refused _ _ _ _ _ _ _ c.judge-j.ensures _ c.in-Refused.is) in
+pub returns-in-Err : goal.returns-in-Err
+returns-in-Err c =
+    let r = outcome-told _ _ _ _ (outcome-refused _ _ _ _ _ _ _ c.judge.ensures _ c.in-Err.is) in
     record { result_after = r.0; answer_told = r.1 }
 
-pub returns-in-Fit : goal.returns-in-Fit
-returns-in-Fit c =
-    let r = outcome-told _ _ _ _ (c.plan_fit.ensures ∙ outcome_planned _ _ _ _ _ _ _ c.judge-j.ensures _ c.in-Fit.is) in
+pub returns-in-Ok : goal.returns-in-Ok
+returns-in-Ok c =
+    let r = outcome-told _ _ _ _ (c.plan_fit.ensures ∙ outcome_planned _ _ _ _ _ _ _ c.judge.ensures _ c.in-Ok.is) in
     record { result_after = r.0; answer_told = r.1 }

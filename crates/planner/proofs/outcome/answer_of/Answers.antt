@@ -5,14 +5,14 @@ use Rattle.planner.proofs.outcome.answer_of.Goals as goal
 
 pub returns-then-t-starting : goal.returns-then-t-starting
 unfolding unentered
-returns-then-t-starting c = answer-unentered _ _ _ _ _ _ _ _ _ _ c.in-Finished.is c.if-t-starting.true
+returns-then-t-starting c = answer-unentered _ _ _ _ _ _ _ _ _ _ c.in-Ok.is c.if-t-starting.true
 
 pub report_of-requires : goal.report_of-requires
-report_of-requires c = record { sides = c.requires.sides; s_in_bounds = c.requires.s_in_bounds; rows_in_bounds = listed-rows _ _ _ _ _ c.in-Finished.is c.requires.listed_end }
+report_of-requires c = record { sides = c.requires.sides; s_in_bounds = c.requires.s_in_bounds; rows_in_bounds = listed-rows _ _ _ _ _ c.in-Ok.is c.requires.listed_end }
 
-pub returns-in-Refused : goal.returns-in-Refused
-returns-in-Refused c = answer_stopped _ _ _ _ _ _ _ _ _ c.in-Refused.is
+pub returns-in-Err : goal.returns-in-Err
+returns-in-Err c = answer_stopped _ _ _ _ _ _ _ _ _ c.in-Err.is
 
 pub returns-else-t-starting : goal.returns-else-t-starting
 unfolding unentered
-returns-else-t-starting c = answer_accepted _ _ _ _ _ _ _ _ _ _ c.in-Finished.is c.if-t-starting.false _ c.report_of.ensures
+returns-else-t-starting c = answer_accepted _ _ _ _ _ _ _ _ _ _ c.in-Ok.is c.if-t-starting.false _ c.report_of.ensures

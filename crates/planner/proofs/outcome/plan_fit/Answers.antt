@@ -5,7 +5,7 @@ use Rattle.planner.proofs.outcome.plan_fit.Goals as goal
 pub make_ready-requires : goal.make_ready-requires
 make_ready-requires c =
     let r = ready_asks _ _ _ _ _ c.args.b.now c.args.u.now c.args.f.now c.args.w.now c.args.rows.now c.args.triples.now _ c.requires _ c.setup_of-s.ensures in
-    record { sides = r.0; all_held = r.1.0; region_value = r.1.1.0; bounds = r.1.1.1.0; samples_bound = r.1.1.1.1.0; room = r.1.1.1.1.1 }
+    record { sides = r.0; all_held = r.1.0; region_value = r.1.1.0; samples_bound = r.1.1.1.0; room = r.1.1.1.1 }
 
 pub plan_ready-requires : goal.plan_ready-requires
 plan_ready-requires c =

@@ -1,12 +1,12 @@
 -- `pocket::answers::of_done` meets its contract. Assumes nothing.
-use mathlib.Core.Path.{sym, ap}
+use mathlib.Core.Path.{sym, ap, ◌∙◌}
 use Rattle.pocket.specs.Answers.{of_done}
 use Rattle.pocket.proofs.answers.of_done.Goals as goal
 
-pub returns-in-Refused : goal.returns-in-Refused
+pub returns-in-Ok : goal.returns-in-Ok
 unfolding of_done
-returns-in-Refused c = sym (ap of_done c.in-Refused.is)
+returns-in-Ok c = ap of_done (sym c.in-Ok.is)
 
-pub returns-in-Finished : goal.returns-in-Finished
+pub returns-in-Err : goal.returns-in-Err
 unfolding of_done
-returns-in-Finished c = sym (ap of_done c.in-Finished.is)
+returns-in-Err c = c.into.ensures ∙ ap of_done (sym c.in-Err.is)

@@ -2,22 +2,28 @@
 use mathlib.Core.Path.{sym, ap, ◌∙◌}
 use mathlib.Core.List.{List}
 use Prim.Native.Nat.{ℕ}
-use Rattle.pocket.specs.declared.answers.Done.TheVariants.{Refused, Finished}
+use Rattle.std.specs.Prelude.{Ok, Err}
+use Rattle.std.proofs.lemmas.Result.{err_from_is_err_and}
 use Rattle.pocket.specs.Leaves.{on_map, clear_again_of}
 use Rattle.pocket.proofs.LeafLaws.{is-refused, is-answered}
 use Rattle.pocket.proofs.LoggedLaws.{logged-is}
+use Rattle.raster.proofs.LogLaws.{redone-front, logged-front, front-long}
 use Rattle.pocket.proofs.logs.clear_again.Goals as goal
 
-pub returns-then-no-ne0 : goal.returns-then-no-ne0
+pub returns-in_err-ask_log : goal.returns-in_err-ask_log
 unfolding clear_again_of
-returns-then-no-ne0 c = let s = c.args in
-    is-refused (λ n. on_map (Refused n) s.map.now) _ _ c.log_refusal-no.ensures c.if-no-ne0.true _
+returns-in_err-ask_log c =
+    let p = err_from_is_err_and c.from_residual.result c.from_residual.ensures.1 in
+    rw (p.1, p.2) (let s = c.args in is-refused (λ n. on_map (Err n) s.map.now) _ _ c.ask_log.ensures _ c.in_err-ask_log.was _)
+
+pub slice_bounds-clear_again-end : goal.slice_bounds-clear_again-end
+slice_bounds-clear_again-end c = let s = c.args in front-long _ _ _ (logged-is _ _ _ s.log.now _ (sym c.ask_log.ensures ∙ c.in_ok-ask_log.was))
 
 pub clear_again-requires : goal.clear_again-requires
 clear_again-requires c = let s = c.args in
-    logged-is _ _ _ s.log.now _ (sym c.log_refusal-no.ensures ∙ c.if-no-ne0.false)
+    logged-front _ _ _ (logged-is _ _ _ s.log.now _ (sym c.ask_log.ensures ∙ c.in_ok-ask_log.was))
 
 pub returns : goal.returns
 unfolding clear_again_of
 returns c = let s = c.args in
-    is-answered (λ n. on_map (Refused n) s.map.now) _ _ c.log_refusal-no.ensures c.if-no-ne0.false _ _ (ap (λ (m : List ℕ). on_map Finished m) c.clear_again.ensures)
+    is-answered (λ n. on_map (Err n) s.map.now) _ _ c.ask_log.ensures c.in_ok-ask_log.was _ _ (ap (λ (m : List ℕ). on_map (Ok tt) m) (c.clear_again.ensures ∙ redone-front _ _ _ _ (logged-is _ _ _ s.log.now _ (sym c.ask_log.ensures ∙ c.in_ok-ask_log.was))))

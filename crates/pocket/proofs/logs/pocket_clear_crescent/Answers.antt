@@ -4,4 +4,4 @@ use Rattle.pocket.proofs.LeafLaws.{told-log}
 use Rattle.pocket.proofs.logs.pocket_clear_crescent.Goals as goal
 
 pub returns : goal.returns
-returns c = told-log of_count _ _ c.of_count.ensures _ _ _ c.clear_crescent.ensures
+returns c = told-log of_count _ _ c.from.ensures _ _ _ c.clear_crescent.ensures

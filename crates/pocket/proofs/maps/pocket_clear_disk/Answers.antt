@@ -4,4 +4,4 @@ use Rattle.pocket.proofs.LeafLaws.{told-map}
 use Rattle.pocket.proofs.maps.pocket_clear_disk.Goals as goal
 
 pub returns : goal.returns
-returns c = told-map of_count _ _ c.of_count.ensures _ _ c.clear_disk.ensures
+returns c = told-map of_count _ _ c.from.ensures _ _ c.clear_disk.ensures

@@ -4,4 +4,4 @@ use Rattle.pocket.specs.Answers.{of_count}
 use Rattle.pocket.proofs.maps.pocket_count_disk.Goals as goal
 
 pub returns : goal.returns
-returns c = c.of_count.ensures ∙ ap of_count c.count_disk.ensures
+returns c = c.from.ensures ∙ ap of_count c.count_disk.ensures

@@ -4,4 +4,4 @@ use Rattle.pocket.specs.Answers.{of_cell}
 use Rattle.pocket.proofs.places.pocket_cell_of.Goals as goal
 
 pub returns : goal.returns
-returns c = c.of_cell.ensures ∙ ap of_cell c.cell_of.ensures
+returns c = c.from.ensures ∙ ap of_cell c.cell_of.ensures

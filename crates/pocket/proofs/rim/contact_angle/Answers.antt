@@ -1,13 +1,13 @@
 -- `pocket::rim::contact_angle` meets its contract. Assumes nothing.
 use mathlib.Core.Path.{ap}
-use Rattle.pocket.specs.declared.answers.Number.TheVariants.{Of}
+use Rattle.std.specs.Prelude.{Ok, Err}
 use Rattle.pocket.specs.Leaves.{contact_angle_of}
 use Rattle.pocket.proofs.LeafLaws.{when_yes, when_not}
 use Rattle.pocket.proofs.rim.contact_angle.Goals as goal
 
 pub returns-then-contact_fits : goal.returns-then-contact_fits
 unfolding contact_angle_of
-returns-then-contact_fits c = when_yes _ _ c.contact_fits.ensures c.if-contact_fits.true _ _ _ (ap Of c.angle_of.ensures)
+returns-then-contact_fits c = when_yes _ _ c.contact_fits.ensures c.if-contact_fits.true _ _ _ (ap Ok c.angle_of.ensures)
 
 pub returns : goal.returns
 unfolding contact_angle_of

@@ -4,4 +4,4 @@ use Rattle.pocket.specs.Answers.{of_rim}
 use Rattle.pocket.proofs.rim.pocket_contact.Goals as goal
 
 pub returns : goal.returns
-returns c = c.of_rim.ensures ∙ ap of_rim c.contact.ensures
+returns c = c.from.ensures ∙ ap of_rim c.contact.ensures

@@ -4,4 +4,4 @@ use Rattle.pocket.specs.Answers.{of_number}
 use Rattle.pocket.proofs.rim.pocket_contact_angle.Goals as goal
 
 pub returns : goal.returns
-returns c = c.of_number.ensures ∙ ap of_number c.contact_angle.ensures
+returns c = c.from.ensures ∙ ap of_number c.contact_angle.ensures

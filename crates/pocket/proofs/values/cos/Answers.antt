@@ -1,13 +1,13 @@
 -- `pocket::values::cos` meets its contract. Assumes nothing.
 use mathlib.Core.Path.{ap}
-use Rattle.pocket.specs.declared.answers.Number.TheVariants.{Of}
+use Rattle.std.specs.Prelude.{Ok, Err}
 use Rattle.pocket.specs.Leaves.{cosine_of}
 use Rattle.pocket.proofs.LeafLaws.{when_yes, when_not}
 use Rattle.pocket.proofs.values.cos.Goals as goal
 
 pub returns-then-angle_fits : goal.returns-then-angle_fits
 unfolding cosine_of
-returns-then-angle_fits c = when_yes _ _ c.angle_fits.ensures c.if-angle_fits.true _ _ _ (ap Of c.cos.ensures)
+returns-then-angle_fits c = when_yes _ _ c.angle_fits.ensures c.if-angle_fits.true _ _ _ (ap Ok c.cos.ensures)
 
 pub returns : goal.returns
 unfolding cosine_of

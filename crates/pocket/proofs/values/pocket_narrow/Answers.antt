@@ -4,4 +4,4 @@ use Rattle.pocket.specs.Answers.{of_single}
 use Rattle.pocket.proofs.values.pocket_narrow.Goals as goal
 
 pub returns : goal.returns
-returns c = c.of_single.ensures ∙ ap of_single c.narrow.ensures
+returns c = c.from.ensures ∙ ap of_single c.narrow.ensures

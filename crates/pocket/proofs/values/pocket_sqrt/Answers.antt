@@ -4,4 +4,4 @@ use Rattle.pocket.specs.Answers.{of_number}
 use Rattle.pocket.proofs.values.pocket_sqrt.Goals as goal
 
 pub returns : goal.returns
-returns c = c.of_number.ensures ∙ ap of_number c.sqrt.ensures
+returns c = c.from.ensures ∙ ap of_number c.sqrt.ensures

@@ -4,4 +4,4 @@ use Rattle.pocket.specs.Answers.{of_count}
 use Rattle.pocket.proofs.values.pocket_wanted.Goals as goal
 
 pub returns : goal.returns
-returns c = c.of_count.ensures ∙ ap of_count c.wanted.ensures
+returns c = c.from.ensures ∙ ap of_count c.wanted.ensures

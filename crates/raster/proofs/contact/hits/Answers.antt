@@ -22,30 +22,6 @@ most c =
 pub loop-sample-init : goal.loop-sample-init
 loop-sample-init c = going_none _ _ _ _
 
-pub overflow_mul-u : goal.overflow_mul-u
-overflow_mul-u c = omega (arith, c.requires.rim.long)
-
-pub offset_bounds-rim-sample : goal.offset_bounds-rim-sample
-offset_bounds-rim-sample c = omega (arith, c.requires.rim.long)
-
-pub bounds-rim-sample : goal.bounds-rim-sample
-bounds-rim-sample c = omega (arith, c.requires.rim.long)
-
-pub overflow_mul-u-in-loop-sample : goal.overflow_mul-u-in-loop-sample
-overflow_mul-u-in-loop-sample c = omega (arith, c.requires.rim.long)
-
-pub overflow_add-u : goal.overflow_add-u
-overflow_add-u c = omega (arith, c.requires.rim.long)
-
-pub offset_bounds-rim-sample-in-loop-sample : goal.offset_bounds-rim-sample-in-loop-sample
-offset_bounds-rim-sample-in-loop-sample c = omega (arith, c.requires.rim.long)
-
-pub bounds-rim-sample-in-loop-sample : goal.bounds-rim-sample-in-loop-sample
-bounds-rim-sample-in-loop-sample c = omega (arith, c.requires.rim.long)
-
-pub at-requires : goal.at-requires
-at-requires c = c.requires.over
-
 pub overflow_add-h : goal.overflow_add-h
 overflow_add-h c = omega (arith, most (goal.at.overflow_add-h c).At-loop-sample)
 

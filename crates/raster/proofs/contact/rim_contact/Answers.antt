@@ -3,8 +3,5 @@ use mathlib.Core.Path.{sym}
 use Rattle.raster.proofs.ContactLaws.{rim-same, contact-is}
 use Rattle.raster.proofs.contact.rim_contact.Goals as goal
 
-pub hits-requires : goal.hits-requires
-hits-requires c = record { over = c.requires.over; rim = rim-same (sym c.samples_of-n.ensures) c.requires.rim }
-
 pub returns : goal.returns
 returns c = contact-is _ _ _ _ _ _ _ c.samples_of-n.ensures c.hits.ensures

@@ -23,6 +23,3 @@ raised-requires c = record { x_value = (near (goal.at.raised-requires c).Then-x0
 pub returns-then-x0-x1 : goal.returns-then-x0-x1
 returns-then-x0-x1 c = let t = near (goal.at.returns-then-x0-x1 c).Then-x0-x1 in
     from-whole _ _ _ _ _ _ c.raised.ensures.0 (place_floor _ t.2 t.3 _ c.sat_u32.ensures) c.cols_between.ensures
-
-pub returns : goal.returns
-returns c = from_floats _ _ _ _ _ _ c.first_from.ensures c.floor.ensures c.cols_of.ensures

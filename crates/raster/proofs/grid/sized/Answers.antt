@@ -4,11 +4,6 @@ use native.Mathlib.Omega.{arith}
 use Rattle.raster.proofs.GridLaws.{few-cells, sized-wide, sized-high, sized_many, sized-is}
 use Rattle.raster.proofs.grid.sized.Goals as goal
 
-pub overflow_mul-ny : goal.overflow_mul-ny
-overflow_mul-ny c = let a : c.reach-h.result + 1 ≤ 4096 = omega (arith, c.if-h-lt4096.true) in
-    let b : c.reach-w.result + 1 ≤ 4096 = omega (arith, c.if-w-lt4096.true) in
-    omega (arith, few-cells _ _ a b)
-
 pub returns-then-ny-nx-le1048576 : goal.returns-then-ny-nx-le1048576
 returns-then-ny-nx-le1048576 c = sized-is _ _ _ _ _ _ c.reach-w.ensures c.reach-h.ensures c.if-w-lt4096.true c.if-h-lt4096.true c.if-ny-nx-le1048576.true _ c.sub-origin.ensures
 

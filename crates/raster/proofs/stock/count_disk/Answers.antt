@@ -1,59 +1,56 @@
--- `raster::stock::count_disk` meets its contract. The invariant: the count is what the rows so far leave, the next row begins at cell `base`, and no more is counted than cells before it. Assumes nothing.
+-- `raster::stock::count_disk` meets its contract. The invariant: the count is what the rows so far leave, and no more is counted than cells before the row. Assumes nothing.
 use mathlib.Core.Path.{refl}
-use Prim.Native.Nat.{◌<◌}
+use Prim.Native.Nat.{◌*◌, ◌<◌}
 use native.Mathlib.Omega.{arith}
-use Rattle.loops.proofs.CellLaws.{row_below}
+use lib.ListN.{length}
 use Rattle.loops.proofs.LoopLaws.{going_none, going_more, going_end}
 use Rattle.raster.specs.Stock.{count_disk}
-use Rattle.raster.proofs.RowLaws.{InRow, chord_within, in_map, next_base, last_within}
-use Rattle.raster.proofs.SweepLaws.{disk-row-is, disk-is}
-use Rattle.raster.proofs.StockLaws.{row-most}
+use Rattle.raster.specs.Sweep.{Inside}
+use Rattle.raster.proofs.RowLaws.{chord_within, row-ends, row-inside, next_base, last_within}
+use Rattle.raster.proofs.SweepLaws.{inside_mono, cells-lie, disk-row-is, disk-is}
+use Rattle.raster.proofs.StockLaws.{row-most, span-counted}
 use Rattle.raster.proofs.stock.count_disk.Goals as goal
-use Rattle.raster.proofs.stock.count_disk.Goals.{After-chord-s, After-rows_of-rows, In-loop-j}
+use Rattle.raster.proofs.stock.count_disk.Goals.{After-chord}
 
--- the last row is one of the grid's
-last_row : (c : After-rows_of-rows) → c.rows_of-rows.result.1 < c.args.g.ny
-last_row c = last_within _ _ _ _ c.rows_of-rows.ensures c.requires.sides.high
-
--- in a turn the row is one of the grid's, and its span lies in it
-row : (c : In-loop-j) → c.loop-j.j < c.args.g.ny
-row c = omega (arith, c.loop-j-test.true, (let told : c.rows_of-rows.result.1 < c.args.g.ny = last_within _ _ _ _ c.rows_of-rows.ensures c.requires.sides.high in told))
-
-within : (c : After-chord-s) → InRow c.args.g.nx c.chord-s.result
-within c = chord_within _ _ _ _ _ c.chord-s.ensures c.requires.sides
-
-pub returns-then-last-first : goal.returns-then-last-first
-unfolding count_disk
-returns-then-last-first c = disk-is _ _ _ _ _ _ _ c.rows_of-rows.ensures (going_end _ _ _ _ _ _ (going_none _ _ _ _) (omega (arith, c.if-last-first.true)))
-
-pub overflow_mul-base : goal.overflow_mul-base
-overflow_mul-base c = omega (arith, row_below _ _ _ _ (let l : c.rows_of-rows.result.0 < c.args.g.ny = omega (arith, c.if-last-first.false, last_row (goal.at.overflow_mul-base c).After-rows_of-rows) in l) c.requires.long, c.well_formed)
-
-pub overflow_add-j-end : goal.overflow_add-j-end
-overflow_add-j-end c = omega (arith, last_row (goal.at.overflow_add-j-end c).After-rows_of-rows)
+-- the row's columns lie in the map
+inside : (c : After-chord) → Inside (c.loop-j.j * c.args.g.nx) (length c.args.map.now) c.chord.result
+inside c = row-inside _ _ _ _ _ c.rows_of-first.ensures c.requires _ c.loop-j-test.true _ (chord_within _ _ _ _ _ c.chord.ensures c.requires.sides)
 
 pub loop-j-init : goal.loop-j-init
-loop-j-init c = (going_none _ _ _ _, refl, omega arith)
+loop-j-init c = (going_none _ _ _ _, omega arith)
 
-pub count_span-n-requires : goal.count_span-n-requires
-count_span-n-requires c = let at = c.loop-j.invariant in record { inside = in_map _ c.args.g.ny c.args.g.nx _ _ at.1 (row (goal.at.count_span-n-requires c).In-loop-j) c.requires.long c.chord-s.result (within (goal.at.count_span-n-requires c).After-chord-s); count_le_base = at.2 }
+pub overflow_mul-j : goal.overflow_mul-j
+overflow_mul-j c = omega (arith, row-ends _ _ _ _ _ c.rows_of-first.ensures c.requires _ c.loop-j-test.true, c.well_formed)
 
-pub overflow_add-base : goal.overflow_add-base
-overflow_add-base c = omega (arith, c.loop-j.invariant.1, row_below _ _ _ _ (row (goal.at.overflow_add-base c).In-loop-j) c.requires.long, c.well_formed)
+pub cells_of-from-requires : goal.cells_of-from-requires
+cells_of-from-requires c = inside_mono _ _ _ _ (omega arith) (inside (goal.at.cells_of-from-requires c).After-chord)
 
-pub overflow_step-j : goal.overflow_step-j
-overflow_step-j c = omega (arith, row (goal.at.overflow_step-j c).In-loop-j, c.well_formed.0)
+pub slice_bounds-count-count : goal.slice_bounds-count-count
+slice_bounds-count-count c = omega (arith, cells-lie _ _ _ _ c.cells_of-from.ensures (inside (goal.at.slice_bounds-count-count c).After-chord))
 
-pub loop-j-smaller : goal.loop-j-smaller
-loop-j-smaller c = omega (arith, c.loop-j-test.true)
+pub slice_bounds-count-start : goal.slice_bounds-count-start
+slice_bounds-count-start c = omega (arith, cells-lie _ _ _ _ c.cells_of-from.ensures (inside (goal.at.slice_bounds-count-start c).After-chord))
+
+pub slice_bounds-count-end : goal.slice_bounds-count-end
+slice_bounds-count-end c = omega (arith, cells-lie _ _ _ _ c.cells_of-from.ensures (inside (goal.at.slice_bounds-count-end c).After-chord))
+
+pub overflow_add-n : goal.overflow_add-n
+overflow_add-n c =
+    let e = span-counted _ _ _ _ _ _ (inside (goal.at.overflow_add-n c).After-chord) c.cells_of-from.ensures c.count-n.ensures in
+    let most = row-most _ _ _ _ _ _ (chord_within _ _ _ _ _ c.chord.ensures c.requires.sides) c.loop-j.invariant.1 e in
+    omega (arith, most, row-ends _ _ _ _ _ c.rows_of-first.ensures c.requires _ c.loop-j-test.true, c.well_formed)
 
 pub loop-j-preserved : goal.loop-j-preserved
-loop-j-preserved c = let at = c.loop-j.invariant in (
-  going_more _ _ _ _ _ _ _ at.0 c.loop-j-test.true (disk-row-is _ _ _ c.args.r _ _ _ _ _ at.1 c.chord-s.ensures c.count_span-n.ensures),
-  next_base _ _ _ at.1,
-  row-most _ _ _ _ _ _ (within (goal.at.loop-j-preserved c).After-chord-s) at.2 c.count_span-n.ensures,
-)
+loop-j-preserved c =
+    let e = span-counted _ _ _ _ _ _ (inside (goal.at.loop-j-preserved c).After-chord) c.cells_of-from.ensures c.count-n.ensures in
+    let most = row-most _ _ _ _ _ _ (chord_within _ _ _ _ _ c.chord.ensures c.requires.sides) c.loop-j.invariant.1 e in (
+      going_more _ _ _ _ _ _ _ c.loop-j.invariant.0 c.loop-j-test.true (disk-row-is _ _ _ c.args.r _ _ _ _ _ refl c.chord.ensures e),
+      omega (arith, most, next_base c.loop-j.j c.args.g.nx _ refl),
+    )
+
+pub overflow_add-j-end : goal.overflow_add-j-end
+overflow_add-j-end c = let last : c.rows_of-first.result.1 < c.args.g.ny = last_within _ _ _ _ c.rows_of-first.ensures c.requires.sides.high in omega arith
 
 pub returns : goal.returns
 unfolding count_disk
-returns c = disk-is _ _ _ _ _ _ _ c.rows_of-rows.ensures (going_end _ _ _ _ _ _ c.loop-j.invariant.0 c.loop-j-test.false)
+returns c = disk-is _ _ _ _ _ _ _ c.rows_of-first.ensures (going_end _ _ _ _ _ _ c.loop-j.invariant.0 c.loop-j-test.false)

@@ -1,5 +1,6 @@
 -- `report::clear::clear_workspace` meets its contract. Assumes nothing.
+use Rattle.report.proofs.ZeroLaws.{blank-is}
 use Rattle.report.proofs.clear.clear_workspace.Goals as goal
 
-pub returns : goal.returns
-returns c = record { b_after = c.zero_bytes.ensures; u_after = c.fill_words.ensures; f_after = c.fill_singles.ensures; w_after = c.fill_doubles.ensures }
+pub returns-clause-b_after : goal.returns-clause-b_after
+returns-clause-b_after c = blank-is 0 _ _ c.requires _ (c.fill.ensures.after (λ y h. h))

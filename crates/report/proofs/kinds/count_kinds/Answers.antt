@@ -1,8 +1,8 @@
 -- `report::kinds::count_kinds` meets its contract. Assumes nothing.
 use mathlib.Core.Path.{ap, ◌∙◌}
-use Prim.Native.Nat.{◌-◌}
 use native.Mathlib.Omega.{arith}
 use Rattle.loops.proofs.LoopLaws.{going_none, going_more, going_end}
+use Rattle.std.specs.Prelude.{Option}
 use Rattle.events.specs.declared.list.Read.{Read}
 use Rattle.report.specs.Kinds.{counting, kinds_of}
 use Rattle.report.proofs.KindLaws.{going_few}
@@ -25,7 +25,7 @@ loop-k-smaller c = omega (arith, c.loop-k-test.true)
 
 pub loop-k-preserved : goal.loop-k-preserved
 loop-k-preserved c = let l = c.loop-k in
-    going_more _ _ _ _ _ _ _ l.invariant c.loop-k-test.true (c.add_kind-t.ensures ∙ ap (λ (q : Read). counting q l.t) c.read_row-c.ensures)
+    going_more _ _ _ _ _ _ _ l.invariant c.loop-k-test.true (c.add_kind-t.ensures ∙ ap (λ (q : Option Read). counting q l.t) c.read_row-c.ensures)
 
 pub returns : goal.returns
 unfolding kinds_of

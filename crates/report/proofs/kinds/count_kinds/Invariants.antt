@@ -1,5 +1,4 @@
 -- `report::kinds::count_kinds` meets its contract. Assumes nothing.
-use Prim.Native.Nat.{◌-◌}
 use Rattle.loops.proofs.LoopLaws.{Going}
 use Rattle.report.specs.Kinds.{kinds, count_row}
 use Rattle.report.proofs.kinds.count_kinds.Given as goal

@@ -1,5 +1,4 @@
 -- `report::standing::remaining` meets its contract. Assumes nothing.
-use Prim.Native.Nat.{◌-◌}
 use native.Mathlib.Omega.{arith}
 use Rattle.loops.proofs.LoopLaws.{going_none, going_more, going_end}
 use Rattle.report.specs.Report.{remaining_of}

@@ -1,5 +1,4 @@
 -- `report::standing::remaining` meets its contract. Assumes nothing.
-use Prim.Native.Nat.{◌-◌}
 use lib.ListN.{length}
 use Rattle.loops.proofs.LoopLaws.{Going}
 use Rattle.report.specs.Report.{rem, remain_at}

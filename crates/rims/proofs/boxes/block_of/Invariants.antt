@@ -3,5 +3,5 @@ use Prim.Native.Nat.{◌≤◌}
 use Rattle.rims.specs.Boxes.{InsideTo}
 use Rattle.rims.proofs.boxes.block_of.Given as goal
 
-abbrev pub invariant-loop-k : goal.invariant-loop-k
-invariant-loop-k l = (l.a ≤ 4096) × (l.c ≤ 4096) × InsideTo l.es l.a l.b l.c l.d l.k
+abbrev pub invariant-loop-e : goal.invariant-loop-e
+invariant-loop-e l = (l.a ≤ 4096) × (l.c ≤ 4096) × InsideTo l.es l.a l.b l.c l.d l.e-index

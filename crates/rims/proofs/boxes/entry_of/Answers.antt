@@ -9,9 +9,3 @@ returns-then-are_near-2 c = let a = c.guess-a.ensures in
       omega (arith, a, b),
       entry-is c.args.g c.requires.sides c.requires.tame c.args.r c.args.s c.requires.s_nonzero c.args.u _ c.scale-v.ensures _ _ a b (c.are_near.ensures c.if-are_near.true) (c.are_near-then-are_near.ensures c.if-are_near-2.true),
     )
-
-pub returns-else-are_near-2 : goal.returns-else-are_near-2
-returns-else-are_near-2 c = entry-none _ _ _ _
-
-pub returns-else-are_near : goal.returns-else-are_near
-returns-else-are_near c = entry-none _ _ _ _

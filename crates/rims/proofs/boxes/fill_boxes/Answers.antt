@@ -8,20 +8,6 @@ use Rattle.rims.proofs.BoxLaws.{entries-numbers, rim-apart, boxed_short, head_ap
 use Rattle.rims.proofs.boxes.fill_boxes.Goals as goal
 use Rattle.rims.proofs.boxes.fill_boxes.Goals.{After-slice_known-then-is_tame-2-1}
 
-long : (c : After-slice_known-then-is_tame-2-1) → length c.fill_blocks.new.w ≡ length c.args.w.now
-long c = c.fill_blocks.ensures.0.long ∙ c.fill_entries.ensures.0.long ∙ length-set c.args.w.now c.args.at (of_bits binary64 0)
-
-pub returns-then-w-lt17152 : goal.returns-then-w-lt17152
-returns-then-w-lt17152 c = boxed_short _ _ _ _ _ c.if-w-lt17152.true
-
-pub bounds-w-8192 : goal.bounds-w-8192
-bounds-w-8192 c = omega (arith, c.if-w-lt17152.false, length-set c.args.w.now c.args.at (of_bits binary64 0))
-
-pub float_to_bits-w : goal.float_to_bits-w
-float_to_bits-w c = let p = c.requires in
-    let l = c.if-w-lt17152.false in
-    flag-number c.args.g c.args.r c.args.n c.args.at c.args.w.now (omega (arith, p.n_bound.2)) p.sides (omega (arith, p.n_bound.1)) p.n_bound.0 l p.started
-
 pub fill_entries-requires : goal.fill_entries-requires
 fill_entries-requires c = let p = c.requires in
     let k = p.n_bound in
@@ -34,12 +20,6 @@ fill_blocks-requires c = let k = c.requires.n_bound in
 
 pub float_from_bits-w : goal.float_from_bits-w
 float_from_bits-w c = no_nan_bits _ (omega (arith, c.reach_of-s.ensures.1))
-
-pub bounds-w-at-then-is_tame : goal.bounds-w-at-then-is_tame
-bounds-w-at-then-is_tame c = omega (arith, long (goal.at.bounds-w-at-then-is_tame c).After-slice_known-then-is_tame-2-1, c.if-w-lt17152.false, c.requires.n_bound.2)
-
-pub shape_of-w-then-is_tame : goal.shape_of-w-then-is_tame
-shape_of-w-then-is_tame c = length-set c.fill_blocks.new.w c.args.at _ ∙ long (goal.at.shape_of-w-then-is_tame c).After-slice_known-then-is_tame-2-1
 
 pub returns-then-is_tame : goal.returns-then-is_tame
 returns-then-is_tame c = let p = c.requires in

@@ -10,29 +10,13 @@ use Rattle.rims.proofs.HitLaws.{hits_few}
 use Rattle.rims.proofs.contact.block_hits.Goals as goal
 use Rattle.rims.proofs.contact.block_hits.Goals.{else-sample_hit, then-sample_hit}
 
-pub overflow_step-k : goal.overflow_step-k
-overflow_step-k c = omega (arith, c.requires.b_bound, c.requires.around.few)
-
-pub overflow_mul-b : goal.overflow_mul-b
-overflow_mul-b c = omega (arith, c.requires.b_bound, c.requires.around.few)
-
-pub overflow_add-b : goal.overflow_add-b
-overflow_add-b c = omega (arith, c.requires.b_bound, c.requires.around.few)
-
 pub loop-k-init : goal.loop-k-init
 loop-k-init c = going_none _ _ _ _
 
-pub sample_hit-requires : goal.sample_hit-requires
-sample_hit-requires c = let p = c.requires in record { over = p.over; around = p.around; k_lt_n = omega (arith, c.loop-k-test.true, c.least-k-end.ensures) }
-
 pub overflow_add-h : goal.overflow_add-h
 overflow_add-h c = let l = c.loop-k in
-    omega (arith, l.invariant.is, hits_few c.args.g c.args.map.now c.args.c c.args.r c.args.n (8 * c.args.b) l.k l.invariant.low, c.loop-k-test.true, c.least-k-end.ensures, c.requires.around.few)
+    omega (arith, l.invariant.is, hits_few c.args.g c.args.map.now c.args.c c.args.r c.args.n (8 * c.args.b) l.k l.invariant.low, c.loop-k-test.true, c.min-k-end.ensures, c.requires.around.few)
 
 pub loop-k-preserved : goal.loop-k-preserved
 loop-k-preserved c = going_more _ _ _ _ _ _ _ c.loop-k.invariant c.loop-k-test.true
     (elim c.if-sample_hit.branch [ then-sample_hit w ↦ w.h-is ∙ hit_yes _ _ _ _ _ _ _ (sym c.sample_hit.ensures ∙ w.if-sample_hit.true) | else-sample_hit w ↦ w.h-is ∙ hit_no _ _ _ _ _ _ _ (sym c.sample_hit.ensures ∙ w.if-sample_hit.false) ])
-
-pub returns : goal.returns
-returns c = let s = c.args in
-    going_end _ _ _ _ _ _ c.loop-k.invariant c.loop-k-test.false ∙ ap (λ (e : ℕ). loop (hit_at s.g s.map.now s.c s.r s.n) (8 * s.b) e 0) c.least-k-end.ensures

@@ -10,25 +10,9 @@ use Rattle.rims.proofs.TileLaws.{tile_number, tile_below}
 use Rattle.rims.proofs.contact.is_bare.Goals as goal
 use Rattle.rims.proofs.contact.is_bare.Goals.{After-tiles_of, Then-x-gt0}
 
--- the cell is on the grid
-column : (c : Then-x-gt0) → c.args.i + (block_at c.args.w.now c.args.at c.args.b - 1) % 4096 < c.args.g.nx
-column c = c.requires.block_on.column c.if-b-lt255.true c.if-x-gt0.true
-
-row : (c : Then-x-gt0) → c.args.j + (block_at c.args.w.now c.args.at c.args.b - 1) / 4096 < c.args.g.ny
-row c = c.requires.block_on.row c.if-b-lt255.true c.if-x-gt0.true
-
 -- its tile is one of those that are kept
 inside : (c : After-tiles_of) → (c.args.j + (block_at c.args.w.now c.args.at c.args.b - 1) / 4096) / 8 * c.tiles_of.result + (c.args.i + (block_at c.args.w.now c.args.at c.args.b - 1) % 4096) / 8 < length c.args.tiles.now
 inside c = omega (arith, tile_below c.args.g _ _ _ c.tiles_of.ensures ((let told : c.args.i + (block_at c.args.w.now c.args.at c.args.b - 1) % 4096 < c.args.g.nx = c.requires.block_on.column c.if-b-lt255.true c.if-x-gt0.true in told)) ((let told : c.args.j + (block_at c.args.w.now c.args.at c.args.b - 1) / 4096 < c.args.g.ny = c.requires.block_on.row c.if-b-lt255.true c.if-x-gt0.true in told)), c.requires.nx_in_bounds.0)
-
-pub float_to_bits-x : goal.float_to_bits-x
-float_to_bits-x c = c.requires.block_on.number c.if-b-lt255.true
-
-pub overflow_add-p : goal.overflow_add-p
-overflow_add-p c = omega (arith, column (goal.at.overflow_add-p c).Then-x-gt0, c.requires.sides.columns)
-
-pub overflow_add-q : goal.overflow_add-q
-overflow_add-q c = omega (arith, row (goal.at.overflow_add-q c).Then-x-gt0, c.requires.sides.rows)
 
 pub overflow_mul-result : goal.overflow_mul-result
 overflow_mul-result c = omega (arith, inside (goal.at.overflow_mul-result c).After-tiles_of)
@@ -46,9 +30,3 @@ returns-then-x-gt0 c = λ t.
       some = c.if-x-gt0.true;
       bare = subst (λ (k : ℕ). get_or c.args.tiles.now k 0 ≡ 0) (tile_number c.args.g _ _ _ c.tiles_of.ensures) (eqb-true _ _ t);
     }
-
-pub returns-else-x-gt0 : goal.returns-else-x-gt0
-returns-else-x-gt0 c = λ t. never t
-
-pub returns-else-b-lt255 : goal.returns-else-b-lt255
-returns-else-b-lt255 c = λ t. never t

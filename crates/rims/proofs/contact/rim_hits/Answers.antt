@@ -6,22 +6,13 @@ use Rattle.spans.specs.Spans.{word}
 use Rattle.rims.proofs.NearLaws.{shifted}
 use Rattle.rims.proofs.contact.rim_hits.Goals as goal
 
-pub float_to_bits-t : goal.float_to_bits-t
-float_to_bits-t c = (c.requires.boxed.told c.if-w-ge17152.true).number
-
-pub overflow_sub-i : goal.overflow_sub-i
-overflow_sub-i c = (c.is_roomy.ensures c.if-is_roomy.true).left
-
-pub overflow_sub-j : goal.overflow_sub-j
-overflow_sub-j c = (c.is_roomy.ensures c.if-is_roomy.true).below
-
 pub box_hits-requires : goal.box_hits-requires
 box_hits-requires c = let p = c.requires in
     let t = p.boxed.told c.if-w-ge17152.true in
     let f = t.firsts c.if-t-gt0.true in
     let x = word c.args.w.now c.args.at in
     let e : x ≡ x - 1 + 1 = omega (arith, c.if-t-gt0.true) in
-    let o = shifted c.args.g c.args.c _ _ _ (sym c.cell_of-f.ensures ∙ c.in-At.is) (c.is_roomy.ensures c.if-is_roomy.true) in record {
+    let o = shifted c.args.g c.args.c _ _ _ (sym c.cell_of.ensures ∙ c.in-Some.is) (c.is_roomy.ensures c.if-is_roomy.true) in record {
       over = p.over;
       tiled = p.tiled;
       around = record {

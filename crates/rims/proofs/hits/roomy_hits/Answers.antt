@@ -11,9 +11,6 @@ use Rattle.rims.proofs.hits.roomy_hits.Goals.{else-sample_hit, then-sample_hit}
 pub loop-k-init : goal.loop-k-init
 loop-k-init c = going_none _ _ _ _
 
-pub sample_hit-requires : goal.sample_hit-requires
-sample_hit-requires c = let p = c.requires in record { over = p.over; rims = p.rims; s_value = p.s_value; roomy = p.roomy; k_lt_n = (c.loop-k-test.true, (p.rims.all p.nonzero).at _ c.loop-k-test.true) }
-
 pub overflow_add-h : goal.overflow_add-h
 overflow_add-h c = omega (arith, c.loop-k.invariant.is, hits-most c.args.g c.args.map.now (center_of c.args.g c.args.i c.args.j) c.args.r c.args.n c.loop-k.k, c.loop-k-test.true, c.requires.rims.entered.few)
 

@@ -10,15 +10,6 @@ use Rattle.rims.proofs.hits.sample_hit.Goals.{Start}
 inside : (s : Start) → (s.args.j - s.args.s) * s.args.g.nx + (s.args.i - s.args.s) + (entry_at s.args.w.now s.args.k - 1) < s.args.g.ny * s.args.g.nx
 inside s = told-inside s.args.g s.args.map.now _ _ s.args.w.now s.requires.rims _ _ _ s.requires.s_value s.requires.roomy s.args.k _ s.requires.k_lt_n.0 (omega (arith, s.requires.k_lt_n.1))
 
-pub float_to_bits-e : goal.float_to_bits-e
-float_to_bits-e c = c.requires.rims.entered.number _ c.requires.k_lt_n.0
-
-pub overflow_mul-base : goal.overflow_mul-base
-overflow_mul-base c = omega (arith, inside (goal.at.overflow_mul-base c).Start, c.requires.over.sides.cells)
-
-pub overflow_add-base : goal.overflow_add-base
-overflow_add-base c = omega (arith, inside (goal.at.overflow_add-base c).Start, c.requires.over.sides.cells)
-
 pub overflow_add-result : goal.overflow_add-result
 overflow_add-result c = omega (arith, inside (goal.at.overflow_add-result c).Start, c.requires.over.sides.cells)
 

@@ -30,9 +30,3 @@ returns-then-is_fixed-2 c = (
   entry-is _ c.requires.sides _ _ _ _ c.scale-v.ensures _ _ (c.is_fixed.ensures c.if-is_fixed.true)
       (c.is_fixed-then-is_fixed.ensures c.if-is_fixed-2.true),
 )
-
-pub returns-else-is_fixed-2 : goal.returns-else-is_fixed-2
-returns-else-is_fixed-2 c = entry-none _ _ _ _
-
-pub returns-else-is_fixed : goal.returns-else-is_fixed
-returns-else-is_fixed c = entry-none _ _ _ _

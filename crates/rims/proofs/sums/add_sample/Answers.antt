@@ -12,15 +12,6 @@ inside : (s : Start) → (s.args.j - s.args.s) * s.args.g.nx + (s.args.i - s.arg
 inside s =
     cells-inside s.args.g _ _ _ s.requires.roomy.0 s.requires.roomy.1 s.args.map.now _ _ s.args.w.now s.requires.rims s.requires.s_value s.args.k _ _ s.requires.k_lt_n.0 refl s.requires.k_lt_n.1 refl
 
-pub float_to_bits-e : goal.float_to_bits-e
-float_to_bits-e c = c.requires.rims.entered.number _ c.requires.k_lt_n.0
-
-pub overflow_mul-base : goal.overflow_mul-base
-overflow_mul-base c = omega (arith, inside (goal.at.overflow_mul-base c).Start, c.requires.over.sides.cells)
-
-pub overflow_add-base : goal.overflow_add-base
-overflow_add-base c = omega (arith, inside (goal.at.overflow_add-base c).Start, c.requires.over.sides.cells)
-
 pub overflow_add-base-2 : goal.overflow_add-base-2
 overflow_add-base-2 c = omega (arith, inside (goal.at.overflow_add-base-2 c).Start, c.requires.over.sides.cells)
 

@@ -15,9 +15,6 @@ overflow_mul-y-2 c = let p = c.requires in omega (arith, p.y_bound.0, few_tiles 
 pub overflow_add-y : goal.overflow_add-y
 overflow_add-y c = let p = c.requires in omega (arith, p.y_bound.0, few_tiles _ p.over.sides.rows)
 
-pub gather_rows-requires : goal.gather_rows-requires
-gather_rows-requires c = let p = c.requires in record { over = p.over; nx_in_bounds = p.over.sides.columns }
-
 pub mark_row-requires : goal.mark_row-requires
 mark_row-requires c = (omega (arith, c.tiles_of.ensures, few_tiles _ c.requires.over.sides.columns, c.gather_rows.ensures.0.long), subst (λ (n : ℕ). c.args.y * n + n ≤ length c.args.tiles.now) (sym c.tiles_of.ensures) (omega (arith, tiles_row c.args.g c.requires.over.sides c.args.y c.requires.y_bound.0, c.requires.y_bound.1)))
 

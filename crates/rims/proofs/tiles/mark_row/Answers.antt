@@ -8,20 +8,8 @@ use Rattle.rims.proofs.TileLaws.{columns-none, columns-yes, columns-no, columns-
 use Rattle.rims.proofs.tiles.mark_row.Goals as goal
 use Rattle.rims.proofs.tiles.mark_row.Goals.{else-has_stock, then-has_stock}
 
-pub loop-x-init : goal.loop-x-init
-loop-x-init c = columns-none _ _ _ _
-
-pub mark-requires : goal.mark-requires
-mark-requires c = (c.loop-x-test.true, omega (arith, c.loop-x.invariant.0.long, c.requires.1))
-
 pub loop-x-preserved : goal.loop-x-preserved
 loop-x-preserved c = let s = c.args in
     let l = c.loop-x in
     let Next : List ℕ → Type 0 = λ t. Keeps s.tiles.now t × ColumnsMarked s.n s.y s.cols.now (l.x + 1) t in
     elim c.if-has_stock.branch [ then-has_stock w ↦ subst Next (sym w.tiles-is) (columns-yes _ _ _ _ _ _ _ w.mark.ensures l.invariant) | else-has_stock w ↦ subst Next (sym w.tiles-is) (columns-no _ _ _ _ _ _ (sym c.has_stock.ensures ∙ w.if-has_stock.false) l.invariant) ]
-
-pub shape_of-tiles : goal.shape_of-tiles
-shape_of-tiles c = c.loop-x.invariant.0.long
-
-pub returns : goal.returns
-returns c = let i = c.loop-x.invariant in (i.0, columns-end _ _ _ _ _ c.loop-x-test.false i.1)

@@ -1,5 +1,4 @@
 -- `rounds::next::least` meets its contract. Assumes nothing.
-use Prim.Native.Nat.{◌-◌}
 use lib.Ieee.{of_bits, nan_bits}
 use Rattle.rounds.proofs.NextLaws.{closest_none, closest_more, closest_end}
 use Rattle.rounds.proofs.next.least.Goals as goal

@@ -1,5 +1,4 @@
 -- `rounds::next::least` meets its contract. Assumes nothing.
-use Prim.Native.Nat.{◌-◌}
 use Rattle.rounds.proofs.NextLaws.{Closest}
 use Rattle.rounds.proofs.next.least.Given as goal
 

@@ -1,5 +1,4 @@
 -- `rounds::next::nearest` meets its contract. Assumes nothing.
-use Prim.Native.Nat.{◌-◌}
 use native.Mathlib.Omega.{arith}
 use Rattle.rounds.proofs.NextLaws.{next-first, next_new, next-on, next-end}
 use Rattle.rounds.proofs.next.nearest.Goals as goal

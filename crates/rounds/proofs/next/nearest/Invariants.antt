@@ -1,5 +1,4 @@
 -- `rounds::next::nearest` meets its contract. Assumes nothing.
-use Prim.Native.Nat.{◌-◌}
 use Rattle.rounds.proofs.NextLaws.{Foremost}
 use Rattle.rounds.proofs.next.nearest.Given as goal
 

@@ -1,7 +1,7 @@
 -- `rounds::round::cut_ring` meets its contract. Assumes nothing.
-use Prim.Native.Nat.{◌-◌}
 use native.Mathlib.Omega.{arith}
 use Rattle.rounds.specs.Round.{in_order, all_stay, cut_ring_of}
+use Rattle.std.proofs.lemmas.Result.{err_from_is_err_and}
 use Rattle.rounds.proofs.RoundLaws.{cutting_none, words-ask, ring_taken, next_asks, cutting_stops, cutting_more, cutting_ends}
 use Rattle.rounds.proofs.round.cut_ring.Goals as goal
 
@@ -11,22 +11,23 @@ loop-i-init c = cutting_none _ _ _ _ _ _ _ _ _ _ in_order all_stay c.requires.st
 pub read-p-requires : goal.read-p-requires
 read-p-requires c = let C = c.loop-i.invariant in let p = words-ask _ _ _ _ _ _ C.standing in record { n_le_most = p.0; n_in_bounds = p.1.0; k_lt_n = omega (arith, c.loop-i-test.true, C.lies.lying.few) }
 
-pub cut_next-c-requires : goal.cut_next-c-requires
-cut_next-c-requires c =
+pub cut_next-requires : goal.cut_next-requires
+cut_next-requires c =
     let r = next_asks _ _ _ _ _ _ _ _ _ _ _ _ _ _ _ _ _ _ _ _ _ c.loop-i.invariant c.loop-i-test.true _ _ _ (ring_taken _ _ _ _ _ _ _ _ _ _ _ _ _ _ _ _ _ _ c.loop-i-test.true c.loop-i.invariant _ c.read-p.ensures) in
     record { standing = r.0; traced = r.1.0; listed = r.1.1 }
 
-pub returns-in-Refused : goal.returns-in-Refused
+pub returns-in_err-at : goal.returns-in_err-at
 unfolding cut_ring_of
-returns-in-Refused c =
-    let r = cutting_stops _ _ _ _ _ _ _ _ _ _ _ _ _ _ _ _ _ _ _ _ _ c.loop-i.invariant c.loop-i-test.true _ _ _ (ring_taken _ _ _ _ _ _ _ _ _ _ _ _ _ _ _ _ _ _ c.loop-i-test.true c.loop-i.invariant _ c.read-p.ensures) _ _ _ _ _ _ c.cut_next-c.ensures.result_after c.cut_next-c.ensures.settled c.cut_next-c.ensures.behind c.cut_next-c.ensures.only _ c.in-Refused.is in
-    record { result_after = r.0; cells_kept = r.1.0; b_unchanged = r.1.1.0; u_len_unchanged = r.1.1.1.0; only = r.1.1.1.1.0; lists = r.1.1.1.1.1 }
+returns-in_err-at c =
+    let r = cutting_stops _ _ _ _ _ _ _ _ _ _ _ _ _ _ _ _ _ _ _ _ _ c.loop-i.invariant c.loop-i-test.true _ _ _ (ring_taken _ _ _ _ _ _ _ _ _ _ _ _ _ _ _ _ _ _ c.loop-i-test.true c.loop-i.invariant _ c.read-p.ensures) _ _ _ _ _ _ c.cut_next.ensures.result_after c.cut_next.ensures.settled c.cut_next.ensures.behind c.cut_next.ensures.only _ c.in_err-at.was in
+    let p = err_from_is_err_and c.from_residual.result c.from_residual.ensures.1 in
+    rw (p.1, p.2) (record { result_after = r.0; cells_kept = r.1.0; b_unchanged = r.1.1.0; u_len_unchanged = r.1.1.1.0; only = r.1.1.1.1.0; lists = r.1.1.1.1.1 })
 
 pub overflow_step-i : goal.overflow_step-i
 overflow_step-i c = let C = c.loop-i.invariant in omega (arith, c.loop-i-test.true, C.lies.lying.few, C.standing.sides.cells)
 
 pub loop-i-preserved : goal.loop-i-preserved
-loop-i-preserved c = cutting_more _ _ _ _ _ _ _ _ _ _ _ _ _ _ _ _ _ _ _ _ _ c.loop-i.invariant c.loop-i-test.true _ _ _ (ring_taken _ _ _ _ _ _ _ _ _ _ _ _ _ _ _ _ _ _ c.loop-i-test.true c.loop-i.invariant _ c.read-p.ensures) _ _ _ _ _ _ c.cut_next-c.ensures.result_after c.cut_next-c.ensures.settled c.cut_next-c.ensures.behind c.cut_next-c.ensures.only _ _ c.in-After.is
+loop-i-preserved c = cutting_more _ _ _ _ _ _ _ _ _ _ _ _ _ _ _ _ _ _ _ _ _ c.loop-i.invariant c.loop-i-test.true _ _ _ (ring_taken _ _ _ _ _ _ _ _ _ _ _ _ _ _ _ _ _ _ c.loop-i-test.true c.loop-i.invariant _ c.read-p.ensures) _ _ _ _ _ _ c.cut_next.ensures.result_after c.cut_next.ensures.settled c.cut_next.ensures.behind c.cut_next.ensures.only _ _ c.in_ok-at.was
 
 pub returns : goal.returns
 unfolding cut_ring_of

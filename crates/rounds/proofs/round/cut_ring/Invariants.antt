@@ -1,5 +1,4 @@
 -- `rounds::round::cut_ring` meets its contract. Assumes nothing.
-use Prim.Native.Nat.{◌-◌}
 use Rattle.rounds.specs.Round.{in_order, all_stay}
 use Rattle.rounds.proofs.RoundLaws.{Cutting}
 use Rattle.rounds.proofs.round.cut_ring.Given as goal

@@ -15,6 +15,3 @@ fill_rim-requires c = omega (arith, few (goal.at.fill_rim-requires c).After-samp
 
 pub fill-requires : goal.fill-requires
 fill-requires c = let p = c.requires in record { sides = p.sides; rim = c.fill_rim.ensures.1; n_bound = few (goal.at.fill-requires c).After-samples_of-n; in_bounds = omega (arith, p.in_bounds, c.fill_rim.auto.rim) }
-
-pub returns : goal.returns
-returns c = rim-tables c.args.s c.requires.sides _ _ _ c.samples_of-n.ensures c.fill.ensures c.fill_all.ensures

@@ -11,19 +11,10 @@ returns-then-n-lt3 c = smooth_few _ _ _ _ c.if-n-lt3.true
 pub loop-t-init : goal.loop-t-init
 loop-t-init c = (going_none _ _ _ _, refl)
 
-pub average-requires : goal.average-requires
-average-requires c = record { n_nonzero = omega (arith, c.if-n-lt3.false); n_in_bounds = omega (arith, c.requires.n_in_bounds, c.loop-t.invariant.1) }
-
 pub loop-t-preserved : goal.loop-t-preserved
 loop-t-preserved c = let l = c.loop-t in
     let a = c.average.ensures in
     (going_more _ _ _ _ _ _ _ l.invariant.0 c.loop-t-test.true a.is, a.long ∙ l.invariant.1)
-
-pub resample-requires : goal.resample-requires
-resample-requires c = record { lt_n = omega (arith, c.if-n-lt3.false); n_in_bounds = omega (arith, c.requires.n_in_bounds, c.loop-t.invariant.1); bounds = c.requires.bounds }
-
-pub shape_of-pts : goal.shape_of-pts
-shape_of-pts c = c.resample.ensures.long ∙ c.loop-t.invariant.1
 
 pub returns : goal.returns
 returns c = let i = c.loop-t.invariant in

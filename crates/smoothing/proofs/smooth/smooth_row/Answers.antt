@@ -8,11 +8,6 @@ use Rattle.pieces.specs.declared.row.Row.{Row}
 use Rattle.smoothing.proofs.RowLaws.{read-smoothed}
 use Rattle.smoothing.proofs.smooth.smooth_row.Goals as goal
 
-pub slice_bounds-smooth-end : goal.slice_bounds-smooth-end
-slice_bounds-smooth-end c = let a = c.args in
-    let h : 2 * end_of c.row_at-p.result ≤ length a.pts.now = subst (λ (p : Row). 2 * end_of p ≤ length a.pts.now) (sym c.row_at-p.ensures) c.requires.k_in_bounds_2 in
-    omega (arith, h)
-
 pub returns : goal.returns
 returns c = let a = c.args in
     let p = c.row_at-p in

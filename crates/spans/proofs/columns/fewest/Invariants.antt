@@ -1,8 +1,6 @@
 -- `spans::columns::fewest` meets its contract. The invariant: the bounds are those of the columns so far. Assumes nothing.
-use mathlib.Core.Path.{◌≡◌}
-use mathlib.Core.Bool.{true}
 use Rattle.spans.specs.Ends.{Least}
 use Rattle.spans.proofs.columns.fewest.Given as goal
 
 abbrev pub invariant-loop-i : goal.invariant-loop-i
-invariant-loop-i l = l.b.known ≡ true → Least l.g l.s l.h l.i l.b
+invariant-loop-i l = Least l.g l.s l.h l.i l.b

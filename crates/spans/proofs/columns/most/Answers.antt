@@ -3,37 +3,8 @@ use native.Mathlib.Omega.{arith}
 use Rattle.spans.proofs.ColumnLaws.{short-is, most-none, most_more, most-is, most-end}
 use Rattle.spans.proofs.columns.most.Goals as goal
 
-pub overflow_mul-b : goal.overflow_mul-b
-overflow_mul-b c = omega (arith, c.requires.1)
-
-pub end_with-i-end-requires : goal.end_with-i-end-requires
-end_with-i-end-requires c = tt
-
-pub loop-i-init : goal.loop-i-init
-loop-i-init c = λ t. most-none _ _ _ _
-
-pub below-requires : goal.below-requires
-below-requires c = tt
-
-pub beyond-requires : goal.beyond-requires
-beyond-requires c = tt
-
-pub span-requires : goal.span-requires
-span-requires c = tt
-
-pub widened-b-requires : goal.widened-b-requires
-widened-b-requires c = (c.requires.1, short-is _ _ _ _ c.span.ensures c.requires.0)
-
-pub overflow_step-i : goal.overflow_step-i
-overflow_step-i c = omega (arith, c.loop-i-test.true, c.end_with-i-end.ensures, c.requires.0.columns)
-
-pub loop-i-smaller : goal.loop-i-smaller
-loop-i-smaller c = omega (arith, c.loop-i-test.true)
+pub widened-requires : goal.widened-requires
+widened-requires c = (c.requires.1, short-is _ _ _ _ c.span.ensures c.requires.0)
 
 pub loop-i-preserved : goal.loop-i-preserved
-loop-i-preserved c = λ t.
-    let w = c.widened-b.ensures t in
-    most_more _ _ _ _ _ _ _ (most-is _ _ _ _ _ _ c.below.ensures c.beyond.ensures c.span.ensures) (c.loop-i.invariant w.known) w
-
-pub returns : goal.returns
-returns c = λ t. most-end _ _ _ _ _ _ (omega (arith, c.loop-i-test.false, c.end_with-i-end.ensures)) (c.loop-i.invariant t)
+loop-i-preserved c = most_more _ _ _ _ _ _ _ (most-is _ _ _ _ _ _ c.below.ensures c.beyond.ensures c.span.ensures) c.loop-i.invariant c.in_ok-b.ensures

@@ -7,20 +7,20 @@ use Rattle.raster.proofs.RowLaws.{last_within}
 use Rattle.raster.proofs.SweepLaws.{crescent-is}
 use Rattle.raster.proofs.LogLaws.{Kept, ready-kept, going_rows, le_same}
 use Rattle.spans.proofs.crescent.clear_rows.Goals as goal
-use Rattle.spans.proofs.crescent.clear_rows.Goals.{After-rows_of-rows, At-loop-y, In-loop-y}
+use Rattle.spans.proofs.crescent.clear_rows.Goals.{After-rows_of-first, At-loop-y, In-loop-y}
 
-last_row : (c : After-rows_of-rows) → c.rows_of-rows.result.1 < c.args.g.ny
-last_row c = last_within _ _ _ _ c.rows_of-rows.ensures c.requires.over.sides.high
+last_row : (c : After-rows_of-first) → c.rows_of-first.result.1 < c.args.g.ny
+last_row c = last_within _ _ _ _ c.rows_of-first.ensures c.requires.over.sides.high
 
 -- what clearing keeps, at the loop's head
 kept : (c : At-loop-y) → let s = c.args in Kept (st s.map.now s.log.now s.count) (st c.loop-y.map c.loop-y.log c.loop-y.n)
 kept c = going_rows _ _ _ _ _ _ _ _ _ c.requires.ready c.loop-y.invariant
 
 row : (c : In-loop-y) → c.loop-y.y < c.args.g.ny
-row c = omega (arith, c.loop-y-test.true, (let told : c.rows_of-rows.result.1 < c.args.g.ny = last_within _ _ _ _ c.rows_of-rows.ensures c.requires.over.sides.high in told))
+row c = omega (arith, c.loop-y-test.true, (let told : c.rows_of-first.result.1 < c.args.g.ny = last_within _ _ _ _ c.rows_of-first.ensures c.requires.over.sides.high in told))
 
 pub overflow_add-y-end : goal.overflow_add-y-end
-overflow_add-y-end c = omega (arith, last_row (goal.at.overflow_add-y-end c).After-rows_of-rows)
+overflow_add-y-end c = omega (arith, last_row (goal.at.overflow_add-y-end c).After-rows_of-first)
 
 pub loop-y-init : goal.loop-y-init
 loop-y-init c = going_none _ _ _ _
@@ -28,21 +28,9 @@ loop-y-init c = going_none _ _ _ _
 pub pass_row-n-requires : goal.pass_row-n-requires
 pass_row-n-requires c = let p = c.requires in record { over = record { sides = p.over.sides; long = le_same p.over.long (kept (goal.at.pass_row-n-requires c).At-loop-y).cells-long }; ready = ready-kept _ _ p.ready (kept (goal.at.pass_row-n-requires c).At-loop-y); spanning = p.spanning; placed = p.placed; placed_2 = p.placed_2; y_lt_ny = row (goal.at.pass_row-n-requires c).In-loop-y }
 
-pub overflow_step-y : goal.overflow_step-y
-overflow_step-y c = omega (arith, row (goal.at.overflow_step-y c).In-loop-y, c.well_formed.0)
-
-pub loop-y-smaller : goal.loop-y-smaller
-loop-y-smaller c = omega (arith, c.loop-y-test.true)
-
 pub loop-y-preserved : goal.loop-y-preserved
 loop-y-preserved c = going_more _ _ _ _ _ _ _ c.loop-y.invariant c.loop-y-test.true c.pass_row-n.ensures
 
-pub shape_of-map : goal.shape_of-map
-shape_of-map c = (kept (goal.at.shape_of-map c).At-loop-y).cells-long
-
-pub shape_of-log : goal.shape_of-log
-shape_of-log c = (kept (goal.at.shape_of-log c).At-loop-y).log-long
-
 pub returns : goal.returns
 unfolding clear_after
-returns c = crescent-is _ _ _ _ _ _ _ _ c.rows_of-rows.ensures (going_end _ _ _ _ _ _ c.loop-y.invariant c.loop-y-test.false)
+returns c = crescent-is _ _ _ _ _ _ _ _ c.rows_of-first.ensures (going_end _ _ _ _ _ _ c.loop-y.invariant c.loop-y-test.false)

@@ -7,12 +7,6 @@ use Rattle.spans.proofs.crescent.inner.Goals.{Else-k-j}
 near : (c : Else-k-j) → let s = c.args in (s.at.j ≤ s.y + s.s) × (s.y + s.s - s.at.j ≤ 2 * s.s)
 near c = let s = c.args in in_reach (s.y + s.s) s.at.j s.s c.if-k-j.false
 
-pub returns-then-k-j : goal.returns-then-k-j
-returns-then-k-j c = let s = c.args in inner-none s.g s.at.p s.r s.y
-
-pub overflow_sub-q : goal.overflow_sub-q
-overflow_sub-q c = (near (goal.at.overflow_sub-q c).Else-k-j).0
-
 pub word_at-requires : goal.word_at-requires
 word_at-requires c =
     let r = inner-read _ _ _ _ c.requires.spanning.0 c.requires.spanning.1 _ (near (goal.at.word_at-requires c).Else-k-j).1 in

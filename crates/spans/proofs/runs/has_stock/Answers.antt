@@ -7,9 +7,6 @@ use Rattle.spans.proofs.runs.has_stock.Goals as goal
 pub loop-k-init : goal.loop-k-init
 loop-k-init c = going_none _ _ _ _
 
-pub bounds-map-k : goal.bounds-map-k
-bounds-map-k c = omega (arith, c.requires)
-
 pub returns-then-map-k-eq1 : goal.returns-then-map-k-eq1
 returns-then-map-k-eq1 c = any_out _ _ _ _ c.loop-k.invariant c.loop-k-test.true (eq-eqb _ _ c.if-map-k-eq1.true)
 

@@ -1,6 +1,6 @@
 -- `start::allowed::fill_allowed` meets its contract. The invariant: the cells before k are filled, and the block holds for those from k on. Assumes nothing.
 use mathlib.Core.Path.{◌≡◌, sym, ap, subst}
-use Prim.Native.Nat.{◌+◌, ◌-◌}
+use Prim.Native.Nat.{◌+◌}
 use native.Mathlib.Omega.{arith}
 use lib.ListN.{set, get_or}
 use Rattle.loops.specs.Frame.{Only}

@@ -1,5 +1,4 @@
 -- `start::allowed::fill_allowed` meets its contract. The invariant: the cells before k are filled, and the block holds for those from k on. Assumes nothing.
-use Prim.Native.Nat.{◌-◌}
 use Rattle.loops.proofs.LoopLaws.{Going}
 use Rattle.start.specs.Blocks.{Told}
 use Rattle.start.proofs.WriteLaws.{write_from}

@@ -1,6 +1,6 @@
 -- `start::reach::mark_near` meets its contract. Assumes nothing.
 use mathlib.Core.Path.{ap}
-use Prim.Native.Nat.{◌+◌, ◌-◌}
+use Prim.Native.Nat.{◌+◌}
 use native.Mathlib.Omega.{arith}
 use lib.ListN.{set}
 use Rattle.loops.specs.Frame.{Only}
@@ -29,9 +29,6 @@ offset_bounds-squares-k c = omega (arith, c.loop-k-test.true, c.requires.n_in_bo
 pub bounds-squares-k : goal.bounds-squares-k
 bounds-squares-k c = omega (arith, c.loop-k-test.true, c.requires.n_in_bounds)
 
-pub near_byte-requires : goal.near_byte-requires
-near_byte-requires c = c.requires.limit_of
-
 pub overflow_add-b : goal.overflow_add-b
 overflow_add-b c = omega (arith, c.loop-k-test.true, c.reach-a.ensures, c.requires.n_le_most)
 
@@ -48,7 +45,7 @@ pub loop-k-preserved : goal.loop-k-preserved
 loop-k-preserved c = let l = c.loop-k in
     let t = c.loop-k-test.true in
     going_more _ _ _ _ _ _ _ l.invariant t
-    (ap (set l.b (c.reach-a.result + l.k)) (near-turn c.args.t c.args.n _ c.args.squares.now c.args.b.now l.b c.requires.n_in_bounds_2 c.reach-a.ensures (only (goal.at.loop-k-preserved c).At-loop-k) l.k _ t c.near_byte.ensures))
+    (ap (set l.b (c.reach-a.result + l.k)) (near-turn c.args.l.threshold c.args.n _ c.args.squares.now c.args.b.now l.b c.requires.n_in_bounds_2 c.reach-a.ensures (only (goal.at.loop-k-preserved c).At-loop-k) l.k _ t c.near_byte.ensures))
 
 pub shape_of-b : goal.shape_of-b
 shape_of-b c = (only (goal.at.shape_of-b c).At-loop-k).long

@@ -1,6 +1,5 @@
 -- `start::stock::add_regions` meets its contract. Assumes nothing.
 use mathlib.Core.Path.{◌≡◌, refl, ap, ◌∙◌}
-use Prim.Native.Nat.{◌-◌}
 use native.Mathlib.Omega.{arith}
 use lib.ListN.{length}
 use Rattle.loops.proofs.LoopLaws.{going_none, going_more, going_end}

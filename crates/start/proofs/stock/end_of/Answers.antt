@@ -1,38 +1,34 @@
 -- `start::stock::end_of` meets its contract. Assumes nothing.
 use mathlib.Core.Path.{◌≡◌, ap}
-use Prim.Native.Nat.{◌+◌, ◌-◌}
+use Prim.Native.Nat.{◌+◌}
 use native.Mathlib.Omega.{arith}
 use Rattle.loops.proofs.LoopLaws.{going_none, going_more, going_end}
 use Rattle.geom.specs.Region.{start_of}
-use Rattle.geom.proofs.RegionLaws.{loop-within}
+use Rattle.geom.proofs.RegionLaws.{loop-within, turn-loop, turn_size}
 use Rattle.start.proofs.stock.end_of.Goals as goal
-use Rattle.start.proofs.stock.end_of.Goals.{At-loop-l}
+use Rattle.start.proofs.stock.end_of.Goals.{At-loop-n}
 
-at-is : (c : At-loop-l) → let s = c.args in c.loop-l.at ≡ start_of s.lens.now s.r c.loop-l.l
+at-is : (c : At-loop-n) → let s = c.args in c.loop-n.at ≡ start_of s.lens.now s.r c.loop-n.n-index
 unfolding start_of
-at-is c = c.loop-l.invariant.is
+at-is c = c.loop-n.invariant.is
 
-pub loop-l-init : goal.loop-l-init
-loop-l-init c = going_none _ _ _ _
-
-pub overflow_add-first : goal.overflow_add-first
-overflow_add-first c = omega (arith, c.requires.loops_in_bounds, c.loop-l-test.true)
-
-pub size-at-requires : goal.size-at-requires
-size-at-requires c = omega (arith, c.requires.loops_in_bounds, c.loop-l-test.true)
+pub loop-n-init : goal.loop-n-init
+loop-n-init c = going_none _ _ _ _
 
 pub overflow_add-at : goal.overflow_add-at
-overflow_add-at c = omega (arith, at-is (goal.at.overflow_add-at c).At-loop-l, c.size-at.ensures, c.requires.loops_bound, loop-within c.args.lens.now c.args.r c.loop-l.l c.loop-l-test.true)
+overflow_add-at c = let e = c.sizes-n-items.ensures in
+    let s = c.args in
+    let k = c.loop-n.n-index in
+    let l = turn-loop s.lens.now c.sizes-n-items.result.now s.r e.count e.each k c.loop-n-test.true in
+    omega (arith, at-is (goal.at.overflow_add-at c).At-loop-n, turn_size s.lens.now c.sizes-n-items.result.now s.r e.count e.each k c.loop-n-test.true, c.requires.loops_bound, loop-within s.lens.now s.r k l)
 
-pub overflow_step-l : goal.overflow_step-l
-overflow_step-l c = omega (arith, c.loop-l-test.true)
-
-pub loop-l-smaller : goal.loop-l-smaller
-loop-l-smaller c = omega (arith, c.loop-l-test.true)
-
-pub loop-l-preserved : goal.loop-l-preserved
-loop-l-preserved c = going_more _ _ _ _ _ _ _ c.loop-l.invariant c.loop-l-test.true (ap (λ z. c.loop-l.at + z) c.size-at.ensures)
+pub loop-n-preserved : goal.loop-n-preserved
+loop-n-preserved c = let e = c.sizes-n-items.ensures in
+    let s = c.args in
+    let k = c.loop-n.n-index in
+    let t = c.loop-n-test.true in
+    going_more _ _ _ _ _ _ _ c.loop-n.invariant (turn-loop s.lens.now c.sizes-n-items.result.now s.r e.count e.each k t) (ap (λ z. c.loop-n.at + z) (turn_size s.lens.now c.sizes-n-items.result.now s.r e.count e.each k t))
 
 pub returns : goal.returns
 unfolding start_of
-returns c = going_end _ _ _ _ _ _ c.loop-l.invariant c.loop-l-test.false
+returns c = going_end _ _ _ _ _ _ c.loop-n.invariant (omega (arith, c.loop-n-test.false, c.sizes-n-items.ensures.count))

@@ -1,5 +1,5 @@
 -- `start::stock::fill_map` meets its contract. Assumes nothing.
-use Prim.Native.Nat.{◌+◌, ◌-◌}
+use Prim.Native.Nat.{◌+◌}
 use native.Mathlib.Omega.{arith}
 use Rattle.loops.specs.Frame.{Only}
 use Rattle.loops.proofs.LoopLaws.{going_none, going_more, going_end}

@@ -1,5 +1,4 @@
 -- `start::stock::fill_map` meets its contract. Assumes nothing.
-use Prim.Native.Nat.{◌-◌}
 use Rattle.loops.proofs.LoopLaws.{Going}
 use Rattle.setup.specs.Layout.{run}
 use Rattle.start.specs.Steps.{stock_at}

@@ -1,5 +1,4 @@
 -- `start::walls::lengths` meets its contract. Assumes nothing.
-use Prim.Native.Nat.{◌-◌}
 use lib.ListN.{length}
 use lib.Ieee.{nan}
 use Rattle.loops.proofs.LoopLaws.{Going}

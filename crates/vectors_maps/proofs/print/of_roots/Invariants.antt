@@ -1,7 +1,9 @@
--- `vectors_maps::print::of_roots` meets its contract. The invariant: the fingerprint is of the distances so far. Assumes nothing.
-use Rattle.loops.proofs.LoopLaws.{Going}
-use Rattle.vectors_maps.specs.Print.{mix_root}
+-- `vectors_maps::print::of_roots` meets its contract. Assumes nothing.
+use Rattle.std.proofs.Common.{◌≡◌}
+use lib.ListN.{drop}
+use Rattle.prints.specs.Print.{printed}
+use Rattle.vectors_maps.specs.Print.{root_bits}
 use Rattle.vectors_maps.proofs.print.of_roots.Given as goal
 
-abbrev pub invariant-loop-k : goal.invariant-loop-k
-invariant-loop-k l = Going (mix_root l.s) 0 l.n 1 l.h l.k
+abbrev pub invariant-loop-q : goal.invariant-loop-q
+invariant-loop-q l = printed root_bits l.h (drop l.q-index l.squares) ≡ printed root_bits 1 l.squares

@@ -1,9 +1,0 @@
--- `pocket::refusals::map_refusal` meets its contract. Assumes nothing.
-use Rattle.pocket.proofs.AskedLaws.{map_odd, map-rest}
-use Rattle.pocket.proofs.refusals.map_refusal.Goals as goal
-
-pub returns-then-not-numbers : goal.returns-then-not-numbers
-returns-then-not-numbers c = map_odd _ _ _ _ c.if-not-numbers.true
-
-pub returns : goal.returns
-returns c = map-rest _ _ _ _ c.if-not-numbers.false _ c.size_refusal.ensures

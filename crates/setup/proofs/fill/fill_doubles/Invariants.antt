@@ -1,9 +1,0 @@
--- `setup::fill::fill_doubles` meets its contract. Assumes nothing.
-use mathlib.Core.Path.{◌≡◌}
-use Prim.Native.Nat.{◌≤◌}
-use lib.ListN.{length}
-use Rattle.loops.proofs.FillLaws.{filled}
-use Rattle.setup.proofs.fill.fill_doubles.Given as goal
-
-abbrev pub invariant-loop-k : goal.invariant-loop-k
-invariant-loop-k l = (l.w ≡ filled l.v l.k l.initial.w) × (l.k ≤ length l.initial.w)
