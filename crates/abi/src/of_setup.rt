@@ -86,7 +86,7 @@ pub extern "C" fn setup_allowed_at(
         ny,
     };
     let s = made(g, Region { at, first, loops }, keep, keep, 0);
-    setup::place::allowed_at(s, wall, vs, lens, Vec2 { x, y })
+    setup::place::allowed_at(&s, wall, vs, lens, Vec2 { x, y })
 }
 
 // The tool's tables of a workspace.
@@ -114,26 +114,7 @@ pub extern "C" fn setup_fill_tables(
         nx,
         ny,
     };
-    let region = Region {
-        at: 0,
-        first: 0,
-        loops: 0,
-    };
-    let s = Setup {
-        grid: g,
-        region,
-        r,
-        r_guard: wide,
-        keep: Bound {
-            r: 0.0,
-            below: None,
-        },
-        target: 0.0,
-        guard: 0.0,
-        samples,
-        keep_down: true,
-    };
-    setup::tables::fill(s, w);
+    setup::tables::fill(g, r, wide, samples, w);
 }
 
 #[unsafe(no_mangle)]

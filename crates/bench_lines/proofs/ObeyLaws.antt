@@ -19,11 +19,12 @@ use Rattle.loops.specs.Cells.{ones}
 use Rattle.loops.proofs.LoopLaws.{loop_keeps, loop_split}
 use Rattle.loops.proofs.FillLaws.{filled_more, filled-end}
 use Rattle.geom.specs.declared.vec2.Vec2.{Vec2}
+use Rattle.raster.specs.Grid.{Over}
 use Rattle.raster.specs.Log.{st, Ready, Logged, undone, passes}
 use Rattle.raster.proofs.LogLaws.{undone-long}
 use Rattle.raster.proofs.RunLaws.{ready_for, kept-passes, logged-run}
 use Rattle.bench_lines.specs.Line.{Few, Sound}
-use Rattle.bench_lines.specs.Obey.{Out, out, Lent, Fit, bench, done, grid_for, fill_cell, filled, mapped, cut, restored, refused, obeyed}
+use Rattle.bench_lines.specs.Obey.{Out, out, Lent, Fit, bench, no_map, done, grid_for, fill_cell, filled, mapped, cut, restored, refused, obeyed}
 use Rattle.bench_lines.specs.declared.line.Line.{Line}
 use Rattle.bench_lines.specs.declared.line.Line.TheVariants.{Map, Pass, Undo}
 use Rattle.bench_lines.specs.declared.obey.Bench.{Bench}
@@ -37,6 +38,30 @@ few s h = omega (arith, mul-le-mul_right s.nx h.rows.most, h.columns.most)
 
 pub ready_lent : (m l : List ℕ) → Lent m l → Ready (st m l 0)
 ready_lent m l g = ready_for m l g.room g.small
+
+pub over_lent : (s : Sides) (m l : List ℕ) → Few s → Lent m l → Over (grid_for s) (length m)
+over_lent s m l h g = record {
+  sides = record {
+    wide = h.columns.some;
+    high = h.rows.some;
+    columns = omega (arith, h.columns.most);
+    rows = omega (arith, h.rows.most);
+    cells = omega (arith, few s h);
+  };
+  long = omega (arith, few s h, g.long);
+}
+
+-- of a bench that has a map
+pub over_fit : (b : Bench) (s : Sides) (m l : List ℕ) → Fit b m l → b.sides ≡ Some s → Over (grid_for s) (length m)
+over_fit b s m l f e = over_lent s m l (subst (λ (o : Option Sides). IfSome o Few) e f.sides) f.lent
+
+-- before the first line
+pub fit_start : (m l : List ℕ) → length m ≡ 4096 → length l ≡ 4096 → Fit no_map m l
+fit_start m l h k = record {
+  sides = tt;
+  lent = record { long = omega arith; room = omega arith; small = omega arith };
+  logged = tt;
+}
 
 -- ---- a map
 

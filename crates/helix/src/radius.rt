@@ -26,7 +26,7 @@ fn rim_allowed(s: Setup, wall: &[f64], vs: &[f64], lens: &[u32], c: Vec2, radius
 {
     for k in 0..36 {
         let p = rim_point(c, radius, k);
-        if !setup::place::allowed_at(s, wall, vs, lens, p) {
+        if !setup::place::allowed_at(&s, wall, vs, lens, p) {
             return false;
         }
     }

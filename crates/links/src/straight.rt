@@ -48,7 +48,7 @@ impl Ground<'_> {
         requires { Equipped self.now }
         ensures { let g = self.now in result ≡ clear_at g.setup g.wall.now g.vs.now g.lens.now g.map.now (less_of g.setup) q }
     {
-        let s = self.setup;
+        let s = &self.setup;
         if setup::place::allowed_at(s, self.wall, self.vs, self.lens, q) {
             let contact = setup::place::contact_less(s, self.map, self.tiles, self.rim, q);
             return angle_of(contact) == 0.0;

@@ -84,7 +84,7 @@ fn starts_at(s: Setup, wall: &[f64], vs: &[f64], lens: &[u32], map: &[u8], q: Ve
     requires over { Over s.grid (length map.now) }
     ensures { result ≡ (allowed_at s wall.now vs.now lens.now q && free_at s map.now q) }
 {
-    if setup::place::allowed_at(s, wall, vs, lens, q) {
+    if setup::place::allowed_at(&s, wall, vs, lens, q) {
         return setup::place::free(s, map, q);
     }
     false

@@ -53,7 +53,7 @@ fn probe_at(ground: &Ground, q: Vec2) -> Option<Contact>
     requires { Equipped ground.now }
     ensures { let g = ground.now in result ≡ probe_of g.setup (allowed_at g.setup g.wall.now g.vs.now g.lens.now) g.map.now q }
 {
-    let s = ground.setup;
+    let s = &ground.setup;
     if setup::place::allowed_at(s, ground.wall, ground.vs, ground.lens, q) {
         let contact = setup::place::contact_wide(s, ground.map, ground.tiles, ground.rim, q);
         return Some(contact);

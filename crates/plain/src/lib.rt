@@ -11,7 +11,8 @@ use raster::disk::{Rows, cells_of, chord, rows_of};
 use raster::grid::Grid;
 use raster::stock::count;
 
-// `raster::stock::count_disk` as its definition has it: each row squares the radius.
+// `raster::stock::count_disk` as its definition has it: each row squares the radius and multiplies out its
+// first cell's number.
 pub fn count_disk(g: Grid, map: &[u8], c: Vec2, r: f64) -> usize
     requires { Over g (length map.now) }
     ensures { result ≡ count_disk g c r map.now }

@@ -91,7 +91,7 @@ fn answer_of(
                 given_up: q.given,
                 spent,
             };
-            Ok(report_of(s, f, t, b, rows, triples))
+            Ok(report_of(s.grid, f, t, b, rows, triples))
         }
     }
 }

@@ -20,7 +20,7 @@ use Rattle.pocket.specs.Ranges.{sides_fit}
 use Rattle.pocket.specs.Refusals.{Asked, number_of, ask, far_asked}
 use Rattle.pocket.specs.Leaves.{unless, OnFar, on_far, distance_map_of}
 use Rattle.std.specs.Prelude.{OnOk}
-use Rattle.pocket.specs.Answers.{of_done}
+use Rattle.pocket.specs.Answers.{done_by, numbered, of_done}
 use Rattle.pocket.proofs.AskedLaws.{ask-none, sides-few, map-sides}
 
 pub record FarRoom (nx ny marks squares distances : ℕ) : Type 0 where
@@ -70,6 +70,6 @@ number-told NoRaster e = let z : ⊥ = omega arith in z
 number-told TooShort e = let z : ⊥ = omega arith in z
 
 pub far_finished : (a : Result Unit Refusal) (P : Type 0) (x : ℕ) → OnOk a P → x ≡ of_done a → x ≡ 0 → P
-unfolding of_done
+unfolding done_by numbered
 far_finished (Ok u) P x h told z = h
 far_finished (Err why) P x h told z = absurd (number-told why (sym told ∙ z))

@@ -12,27 +12,51 @@ use Rattle.pocket.specs.declared.answers.PocketSingle.{PocketSingle}
 use Rattle.pocket.specs.declared.answers.PocketRim.{PocketRim}
 use Rattle.pocket.specs.declared.answers.PocketCell.{PocketCell}
 
-unfoldable pub of_count : Result ℕ Refusal → PocketCount
-of_count (Err why) = record { refused = number_of why; count = 0 }
-of_count (Ok n) = record { refused = 0; count = n }
+-- by any number of a refusal
+unfoldable pub count_by : Result ℕ ℕ → PocketCount
+count_by (Err r) = record { refused = r; count = 0 }
+count_by (Ok n) = record { refused = 0; count = n }
 
-unfoldable pub of_number : Result Float Refusal → PocketNumber
-of_number (Err why) = record { refused = number_of why; value = f0 }
-of_number (Ok x) = record { refused = 0; value = x }
+unfoldable pub number_by : Result Float ℕ → PocketNumber
+number_by (Err r) = record { refused = r; value = f0 }
+number_by (Ok x) = record { refused = 0; value = x }
 
-unfoldable pub of_single : Result Float Refusal → PocketSingle
-of_single (Err why) = record { refused = number_of why; value = of_bits binary32 0 }
-of_single (Ok x) = record { refused = 0; value = x }
+unfoldable pub single_by : Result Float ℕ → PocketSingle
+single_by (Err r) = record { refused = r; value = of_bits binary32 0 }
+single_by (Ok x) = record { refused = 0; value = x }
 
-unfoldable pub of_rim : Result Contact Refusal → PocketRim
-of_rim (Err why) = record { refused = number_of why; hits = 0; samples = 0 }
-of_rim (Ok t) = record { refused = 0; hits = t.hits; samples = t.samples }
+unfoldable pub rim_by : Result Contact ℕ → PocketRim
+rim_by (Err r) = record { refused = r; hits = 0; samples = 0 }
+rim_by (Ok t) = record { refused = 0; hits = t.hits; samples = t.samples }
 
-unfoldable pub of_cell : Result (Option (ℕ × ℕ)) Refusal → PocketCell
-of_cell (Err why) = record { refused = number_of why; found = false; column = 0; row = 0 }
-of_cell (Ok None) = record { refused = 0; found = false; column = 0; row = 0 }
-of_cell (Ok (Some (i, j))) = record { refused = 0; found = true; column = i; row = j }
+unfoldable pub cell_by : Result (Option (ℕ × ℕ)) ℕ → PocketCell
+cell_by (Err r) = record { refused = r; found = false; column = 0; row = 0 }
+cell_by (Ok None) = record { refused = 0; found = false; column = 0; row = 0 }
+cell_by (Ok (Some (i, j))) = record { refused = 0; found = true; column = i; row = j }
 
-unfoldable pub of_done : Result Unit Refusal → ℕ
-of_done (Err why) = number_of why
-of_done (Ok u) = 0
+unfoldable pub done_by : Result Unit ℕ → ℕ
+done_by (Err r) = r
+done_by (Ok u) = 0
+
+-- a leaf's refusal by its number
+unfoldable pub numbered : {A : Type 0} → Result A Refusal → Result A ℕ
+numbered (Err why) = Err (number_of why)
+numbered (Ok x) = Ok x
+
+abbrev pub of_count : Result ℕ Refusal → PocketCount
+of_count a = count_by (numbered a)
+
+abbrev pub of_number : Result Float Refusal → PocketNumber
+of_number a = number_by (numbered a)
+
+abbrev pub of_single : Result Float Refusal → PocketSingle
+of_single a = single_by (numbered a)
+
+abbrev pub of_rim : Result Contact Refusal → PocketRim
+of_rim a = rim_by (numbered a)
+
+abbrev pub of_cell : Result (Option (ℕ × ℕ)) Refusal → PocketCell
+of_cell a = cell_by (numbered a)
+
+abbrev pub of_done : Result Unit Refusal → ℕ
+of_done a = done_by (numbered a)

@@ -5,8 +5,8 @@ ghost use Rattle.raster.specs.Grid.{Over};
 ghost use Rattle.raster.specs.Sweep.{Inside, over_span, crescent_at};
 ghost use Rattle.raster.specs.Log.{st, Ready, Logged, written, clear_cell, clear_after, undone, redone};
 
-use super::disk::{Cols, Rows, cells_of, crescent_row, rows_of};
-use super::grid::{Grid, cell_at, number_of};
+use super::disk::{Cols, Crescent, Rows, cells_of, crescent_row, rows_of};
+use super::grid::{CellNo, Grid, cell_at, index_of, number_of};
 use geom::vec2::Vec2;
 
 // Clears a row's columns, and logs the cells that were stock. The row begins at cell base. The log is a slice that C lends
@@ -34,6 +34,17 @@ pub fn clear_span_logged(
     n
 }
 
+// The same of both spans of a crescent's row.
+fn clear_columns(map: &mut [u8], base: usize, row: Crescent, log: &mut [u32], count: usize) -> usize
+    requires left { Inside base (length map.old) row.left }
+    requires right { Inside base (length map.old) row.right }
+    requires ready { Ready (st map.old log.old count) }
+    ensures { st map.new log.new result ≡ over_span clear_cell base row.right (over_span clear_cell base row.left (st map.old log.old count)) }
+{
+    let n = clear_span_logged(map, base, row.left, log, count);
+    clear_span_logged(map, base, row.right, log, n)
+}
+
 // Clears row y of the crescent from prev to c.
 pub fn clear_row(
     g: Grid,
@@ -51,9 +62,7 @@ pub fn clear_row(
     ensures { st map.new log.new result ≡ crescent_at clear_cell g prev c r y (st map.old log.old count) }
 {
     let row = crescent_row(g, prev, c, r * r, y);
-    let base = y * g.nx;
-    let n = clear_span_logged(map, base, row.left, log, count);
-    clear_span_logged(map, base, row.right, log, n)
+    clear_columns(map, y * g.nx, row, log, count)
 }
 
 // Clears the crescent from prev to c, with the numbers of the cells that were stock appended to the
@@ -72,9 +81,16 @@ pub fn clear_disk_after_logged(
     ensures { st map.new log.new result ≡ clear_after g prev c r (st map.old log.old count) }
 {
     let Rows(first, last) = rows_of(g, c, r);
+    if last < first {
+        return count;
+    }
+    let r2 = r * r;
+    let nx = g.nx;
+    let mut base = first * nx;
     let mut n = count;
     for y in first..last + 1 {
-        n = clear_row(g, map, prev, c, r, y, log, n);
+        n = clear_columns(map, base, crescent_row(g, prev, c, r2, y), log, n);
+        base += nx;
     }
     n
 }
@@ -85,7 +101,8 @@ fn write_logged(map: &mut [u8], log: &[u32], byte: u8)
     ensures { map.new ≡ loop (written log.now byte) 0 (length log.now) map.old }
 {
     for cell in log {
-        map[*cell as usize] = byte;
+        let k = index_of(CellNo(*cell));
+        map[k] = byte;
     }
 }
 

@@ -2,7 +2,6 @@
 ghost use Rattle.std.specs.Prelude.{◌≡◌, ◌*◌, ◌≤◌, length};
 ghost use Rattle.raster.specs.Grid.{Sides};
 ghost use Rattle.setup.specs.Layout.{map_in};
-ghost use Rattle.setup.specs.Place.{cells_of};
 ghost use Rattle.workspace.specs.Standing.{reach_in};
 ghost use Rattle.report.specs.Report.{layers_of, report_of};
 
@@ -11,7 +10,8 @@ use super::standing::remaining;
 use cutting::piece::State;
 use numbers::cast::float_of;
 use numbers::order::max;
-use setup::{Setup, layout};
+use raster::grid::Grid;
+use setup::layout;
 
 // `AdaptiveReport` of the Rust without its texts. The last five fields are document 01's.
 #[repr(C)]
@@ -55,25 +55,25 @@ fn layers(top: f64, bottom: f64, step_down: f64) -> usize
 
 // The map and the cells that could be reached stand in the workspace's bytes.
 pub fn report_of(
-    s: Setup,
+    g: Grid,
     f: Finish,
     t: State,
     b: &[u8],
     rows: &[u32],
     triples: &[f64],
 ) -> AdaptiveReport
-    requires sides { Sides s.grid }
-    requires s_in_bounds { 8 * cells_of s ≤ length b.now }
+    requires sides { Sides g }
+    requires g_in_bounds { 8 * (g.ny * g.nx) ≤ length b.now }
     requires rows_in_bounds { t.rows * 3 ≤ length rows.now }
-    ensures { result ≡ report_of s.grid.cell f t (map_in (cells_of s) b.now) (reach_in (cells_of s) b.now) rows.now triples.now }
+    ensures { result ≡ report_of g.cell f t (map_in (g.ny * g.nx) b.now) (reach_in (g.ny * g.nx) b.now) rows.now triples.now }
 {
-    let n = layout::cells(s.grid);
+    let n = layout::cells(g);
     let a = layout::reach(n);
     let e = a + n;
     let left = remaining(&b[0..n], &b[a..e]);
     let standing = raster::stock::count(&b[0..n]);
     let count = count_kinds(rows, triples, t.rows);
-    let area = s.grid.cell * s.grid.cell;
+    let area = g.cell * g.cell;
     let initial = float_of(f.starting) * area;
     let reachable = float_of(left.reach) * area;
     let unreachable = float_of(left.unreach) * area;

@@ -5,7 +5,7 @@ use Prim.Native.Nat.{ℕ, ◌+◌, ◌-◌, ◌≤◌}
 use native.Mathlib.Omega.{arith}
 use lib.ListN.{length, get_or, take, drop}
 use lib.Seq.{get_or-take, get_or-drop}
-use lib.Ieee.{Float, nan}
+use lib.Ieee.{Float, binary64, nan, sub}
 use borrow.Rule.Slice.PartMut.{put_mid}
 use Rattle.loops.specs.Regions.{Fits, within}
 use Rattle.loops.specs.Frame.{Only}
@@ -16,8 +16,8 @@ use Rattle.spans.specs.Spans.{Spanning}
 use Rattle.rims.specs.Offsets.{Rims}
 use Rattle.rims.specs.Boxes.{Apart, Boxed}
 use Rattle.rims.proofs.BoxLaws.{boxed_before, rims-apart}
-use Rattle.setup.specs.Tables.{less_of, Tables}
-use Rattle.setup.specs.declared.Setup.{Setup}
+use Rattle.raster.specs.declared.grid.Grid.{Grid}
+use Rattle.setup.specs.Tables.{ToolTables}
 
 -- ---- a part was written
 
@@ -35,27 +35,26 @@ only-apart a e w v F O = record {
 
 -- ---- the tables
 
--- those of the rim
-abbrev pub RimTables : Setup → ℕ → List Float → Type 0
-RimTables s n w = Rims s.grid s.r n w × Boxed s.grid s.r_guard n 12544 w × Boxed s.grid (less_of s) n 14848 w
+-- those of the rim: of a tool of radius r, and of the wider one
+module _ (g : Grid) (S : Sides g) (r wide : Float) where
+  abbrev pub RimTables : ℕ → List Float → Type 0
+  RimTables n w = Rims g r n w × Boxed g wide n 12544 w × Boxed g (sub binary64 r g.cell) n 14848 w
 
-module _ (s : Setup) (S : Sides s.grid) where
-  pub rim-tables : (n : ℕ) (w v : List Float) → n ≡ samples_of s.samples → Rims s.grid s.r n w
-      → Apart 8192 17152 w v × Boxed s.grid s.r_guard n 12544 v × Boxed s.grid (less_of s) n 14848 v → RimTables s (samples_of s.samples) v
-  rim-tables n w v e R B =
-      subst (λ (k : ℕ). RimTables s k v) e (rims-apart s.grid S s.r n 12544 8192 17152 R.entered.few w v B.0 (omega arith) R, B.1, B.2)
+  pub rim-tables : (m n : ℕ) (w v : List Float) → n ≡ samples_of m → Rims g r n w
+      → Apart 8192 17152 w v × Boxed g wide n 12544 v × Boxed g (sub binary64 r g.cell) n 14848 v → RimTables (samples_of m) v
+  rim-tables m n w v e R B =
+      subst (λ (k : ℕ). RimTables k v) e (rims-apart g S r n 12544 8192 17152 R.entered.few w v B.0 (omega arith) R, B.1, B.2)
 
-  pub tables_are : (w u : List Float) → 8192 ≤ length w → length u ≡ length (take 2048 (drop 6144 w)) → RimTables s (samples_of s.samples) w → Spanning s.grid s.r u
-      → Tables s (put_mid 6144 2048 w u)
-  tables_are w u h U R P =
-      let n = samples_of s.samples in
+  pub tables_are : (n : ℕ) (w u : List Float) → 8192 ≤ length w → length u ≡ length (take 2048 (drop 6144 w)) → RimTables n w → Spanning g r u
+      → ToolTables g r wide n (put_mid 6144 2048 w u)
+  tables_are n w u h U R P =
       let fits : Fits 6144 8192 w = record { start = omega arith; end = h } in
       let only : Only 6144 8192 w (put_mid 6144 2048 w u) = back-only 6144 8192 w fits u U in
       let apart = only-apart 6144 8192 w (put_mid 6144 2048 w u) fits only in
       record {
         long = omega (arith, only.long);
-        rims = rims-apart s.grid S s.r n 12544 6144 8192 R.0.entered.few w _ apart (omega arith) R.0;
-        spans = subst (Spanning s.grid s.r) (sym (back_there 6144 8192 w fits u U)) P;
-        wider = boxed_before s.grid S s.r_guard n 12544 6144 8192 R.0.entered.few w _ apart (omega arith) (omega arith) R.1;
-        lesser = boxed_before s.grid S (less_of s) n 14848 6144 8192 R.0.entered.few w _ apart (omega arith) (omega arith) R.2;
+        rims = rims-apart g S r n 12544 6144 8192 R.0.entered.few w _ apart (omega arith) R.0;
+        spans = subst (Spanning g r) (sym (back_there 6144 8192 w fits u U)) P;
+        wider = boxed_before g S wide n 12544 6144 8192 R.0.entered.few w _ apart (omega arith) (omega arith) R.1;
+        lesser = boxed_before g S (sub binary64 r g.cell) n 14848 6144 8192 R.0.entered.few w _ apart (omega arith) (omega arith) R.2;
       }

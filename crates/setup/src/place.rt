@@ -27,9 +27,9 @@ fn wall_at(g: Grid, wall: &[f64], keep: f64, p: Vec2) -> bool
 }
 
 // The tool centre may be at p: in the region, and at least `keep` from every wall and island.
-pub fn allowed_at(s: Setup, wall: &[f64], vs: &[f64], lens: &[u32], p: Vec2) -> bool
-    requires { Walls s wall.now vs.now lens.now }
-    ensures { result ≡ allowed_at s wall.now vs.now lens.now p }
+pub fn allowed_at(s: &Setup, wall: &[f64], vs: &[f64], lens: &[u32], p: Vec2) -> bool
+    requires { Walls s.now wall.now vs.now lens.now }
+    ensures { result ≡ allowed_at s.now wall.now vs.now lens.now p }
 {
     let g = s.grid;
     let region = s.region;
@@ -53,12 +53,12 @@ pub fn free(s: Setup, map: &[u8], p: Vec2) -> bool
 }
 
 // Contact of a tool of radius r at p, by the table at `at`.
-fn contact(s: Setup, map: &[u8], tiles: &[u8], rim: &[f64], p: Vec2, r: f64, at: usize) -> Contact
-    requires over { Over s.grid (length map.now) }
-    requires tiled { Tiled s.grid map.now tiles.now }
-    requires tables { Tables s rim.now }
-    requires at_bound { (at ≤ 14848) × Boxed s.grid r (samples_of s.samples) at rim.now }
-    ensures { result ≡ contact_at s map.now p r }
+fn contact(s: &Setup, map: &[u8], tiles: &[u8], rim: &[f64], p: Vec2, r: f64, at: usize) -> Contact
+    requires over { Over s.now.grid (length map.now) }
+    requires tiled { Tiled s.now.grid map.now tiles.now }
+    requires tables { Tables s.now rim.now }
+    requires at_bound { (at ≤ 14848) × Boxed s.now.grid r (samples_of s.now.samples) at rim.now }
+    ensures { result ≡ contact_at s.now map.now p r }
 {
     let n = samples_of(s.samples);
     Contact {
@@ -68,21 +68,21 @@ fn contact(s: Setup, map: &[u8], tiles: &[u8], rim: &[f64], p: Vec2, r: f64, at:
 }
 
 // At the wider radius, as of a pass.
-pub fn contact_wide(s: Setup, map: &[u8], tiles: &[u8], rim: &[f64], p: Vec2) -> Contact
-    requires over { Over s.grid (length map.now) }
-    requires tiled { Tiled s.grid map.now tiles.now }
-    requires tables { Tables s rim.now }
-    ensures { result ≡ contact_at s map.now p s.r_guard }
+pub fn contact_wide(s: &Setup, map: &[u8], tiles: &[u8], rim: &[f64], p: Vec2) -> Contact
+    requires over { Over s.now.grid (length map.now) }
+    requires tiled { Tiled s.now.grid map.now tiles.now }
+    requires tables { Tables s.now rim.now }
+    ensures { result ≡ contact_at s.now map.now p s.now.r_guard }
 {
     contact(s, map, tiles, rim, p, s.r_guard, 12544)
 }
 
 // At a cell less than the tool's radius, as of a link.
-pub fn contact_less(s: Setup, map: &[u8], tiles: &[u8], rim: &[f64], p: Vec2) -> Contact
-    requires over { Over s.grid (length map.now) }
-    requires tiled { Tiled s.grid map.now tiles.now }
-    requires tables { Tables s rim.now }
-    ensures { result ≡ contact_at s map.now p (less_of s) }
+pub fn contact_less(s: &Setup, map: &[u8], tiles: &[u8], rim: &[f64], p: Vec2) -> Contact
+    requires over { Over s.now.grid (length map.now) }
+    requires tiled { Tiled s.now.grid map.now tiles.now }
+    requires tables { Tables s.now rim.now }
+    ensures { result ≡ contact_at s.now map.now p (less_of s.now) }
 {
     let g = s.grid;
     contact(s, map, tiles, rim, p, s.r - g.cell, 14848)

@@ -4,31 +4,33 @@ ghost use Rattle.raster.specs.Contact.{samples_of};
 ghost use Rattle.raster.specs.Grid.{Sides};
 ghost use Rattle.rims.specs.Offsets.{Rims};
 ghost use Rattle.rims.specs.Boxes.{Boxed};
-ghost use Rattle.setup.specs.Tables.{less_of, Tables};
+ghost use Rattle.std.specs.Float.{binary64};
+ghost use Rattle.std.specs.Float.Ieee.{sub};
+ghost use Rattle.setup.specs.Tables.{ToolTables};
 
-use super::Setup;
 use raster::contact::{fill_rim, samples_of};
+use raster::grid::Grid;
 
 // The rim's directions, and the cells under it.
-fn fill_rims(s: Setup, w: &mut [f64])
-    requires sides { Sides s.grid }
-    requires samples_bound { s.samples ≤ 2048 }
+fn fill_rims(g: Grid, r: f64, wide: f64, samples: usize, w: &mut [f64])
+    requires sides { Sides g }
+    requires samples_bound { samples ≤ 2048 }
     requires in_bounds { 8192 ≤ length w.old }
-    ensures { Rims s.grid s.r (samples_of s.samples) w.new × Boxed s.grid s.r_guard (samples_of s.samples) 12544 w.new × Boxed s.grid (less_of s) (samples_of s.samples) 14848 w.new }
+    ensures { Rims g r (samples_of samples) w.new × Boxed g wide (samples_of samples) 12544 w.new × Boxed g (sub binary64 r g.cell) (samples_of samples) 14848 w.new }
 {
-    let g = s.grid;
-    let n = samples_of(s.samples);
+    let n = samples_of(samples);
     fill_rim(w, n);
-    rims::offsets::fill(g, s.r, n, w);
-    rims::boxes::fill_all(g, s.r_guard, s.r - g.cell, n, w);
+    rims::offsets::fill(g, r, n, w);
+    rims::boxes::fill_all(g, wide, r - g.cell, n, w);
 }
 
-pub fn fill(s: Setup, w: &mut [f64])
-    requires sides { Sides s.grid }
-    requires samples_bound { s.samples ≤ 2048 }
+// Of a setup it takes no more than this: grid, radius, wider radius and samples.
+pub fn fill(g: Grid, r: f64, wide: f64, samples: usize, w: &mut [f64])
+    requires sides { Sides g }
+    requires samples_bound { samples ≤ 2048 }
     requires in_bounds { 8192 ≤ length w.old }
-    ensures { Tables s w.new }
+    ensures { ToolTables g r wide (samples_of samples) w.new }
 {
-    fill_rims(s, w);
-    spans::table::fill(s.grid, s.r, &mut w[6144..8192]);
+    fill_rims(g, r, wide, samples, w);
+    spans::table::fill(g, r, &mut w[6144..8192]);
 }

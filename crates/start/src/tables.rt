@@ -17,7 +17,7 @@ pub fn tables(s: Setup, w: &mut [f64])
     let n = layout::cells(s.grid);
     let a = layout::rim(n);
     let e = layout::tables_end(n);
-    setup::tables::fill(s, &mut w[a..e]);
+    setup::tables::fill(s.grid, s.r, s.r_guard, s.samples, &mut w[a..e]);
 }
 
 pub fn clear_log(g: Grid, u: &mut [u32])

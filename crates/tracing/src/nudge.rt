@@ -31,7 +31,7 @@ fn look_round(s: Setup, wall: &[f64], vs: &[f64], lens: &[u32], q: Vec2, r: usiz
     let g = s.grid;
     for k in 0..16 {
         let p = around(g.cell, q, r, k);
-        if allowed_at(s, wall, vs, lens, p) {
+        if allowed_at(&s, wall, vs, lens, p) {
             return Some(p);
         }
     }
@@ -43,7 +43,7 @@ pub fn nudge_inside(s: Setup, wall: &[f64], vs: &[f64], lens: &[u32], q: Vec2) -
     requires { Walls s wall.now vs.now lens.now }
     ensures { result ≡ nudged_by s wall.now vs.now lens.now q }
 {
-    if allowed_at(s, wall, vs, lens, q) {
+    if allowed_at(&s, wall, vs, lens, q) {
         return q;
     }
     for r in 1..9 {

@@ -74,7 +74,7 @@ fn proved_shares(met: &Met) -> [f64; PHASES.len()] {
                 "rounds::round::cut_next",
                 "distance::transform"
                 | "dilation::window::shade"
-                | "distance::limits::limit_of"
+                | "distance::limits::Limit::of"
                 | "links::path::clear",
             ) => 4,
             (_, "rounds::round::cut_next", _) => 3,

@@ -8,7 +8,7 @@ unfolding unentered
 returns-then-t-starting c = answer-unentered _ _ _ _ _ _ _ _ _ _ c.in-Ok.is c.if-t-starting.true
 
 pub report_of-requires : goal.report_of-requires
-report_of-requires c = record { sides = c.requires.sides; s_in_bounds = c.requires.s_in_bounds; rows_in_bounds = listed-rows _ _ _ _ _ c.in-Ok.is c.requires.listed_end }
+report_of-requires c = record { sides = c.requires.sides; g_in_bounds = c.requires.s_in_bounds; rows_in_bounds = listed-rows _ _ _ _ _ c.in-Ok.is c.requires.listed_end }
 
 pub returns-in-Err : goal.returns-in-Err
 returns-in-Err c = answer_stopped _ _ _ _ _ _ _ _ _ c.in-Err.is

@@ -4,5 +4,5 @@ use Rattle.loops.proofs.LoopLaws.{Going}
 use Rattle.raster.specs.Stock.{cl, drop_cell}
 use Rattle.raster.proofs.clear.clear.Given as goal
 
-abbrev pub invariant-loop-cell : goal.invariant-loop-cell
-invariant-loop-cell l = Going drop_cell 0 (length l.initial.cells) (cl l.initial.cells 0) (cl l.cells l.removed) l.cell-index
+abbrev pub invariant-loop-k : goal.invariant-loop-k
+invariant-loop-k l = Going drop_cell 0 (length l.initial.cells) (cl l.initial.cells 0) (cl l.cells l.removed) l.k

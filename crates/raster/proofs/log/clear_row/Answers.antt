@@ -11,15 +11,11 @@ use Rattle.raster.proofs.log.clear_row.Goals.{After-crescent_row-row}
 both : (c : After-crescent_row-row) → BothIn c.args.g.nx c.crescent_row-row.result
 both c = subst (BothIn c.args.g.nx) (sym c.crescent_row-row.ensures) (less_in _ _ _ (chord_in _ _ _ _ c.requires.over.sides))
 
-pub clear_span_logged-n-requires : goal.clear_span_logged-n-requires
-clear_span_logged-n-requires c = let p = c.requires in
-    let g = c.args.g in record { inside = in_map _ g.ny g.nx _ _ refl p.y_lt_ny p.over.long c.crescent_row-row.result.left (both (goal.at.clear_span_logged-n-requires c).After-crescent_row-row).0; ready = p.ready }
-
-pub clear_span_logged-requires : goal.clear_span_logged-requires
-clear_span_logged-requires c = let p = c.requires in
+pub clear_columns-requires : goal.clear_columns-requires
+clear_columns-requires c =
+    let p = c.requires in
     let g = c.args.g in
-    let e = c.clear_span_logged-n.ensures in
-    let q = span_kept _ _ _ _ p.ready e in record { inside = in_map _ g.ny g.nx _ _ refl p.y_lt_ny (le_same p.over.long q.cells-long) c.crescent_row-row.result.right (both (goal.at.clear_span_logged-requires c).After-crescent_row-row).1; ready = ready-kept _ _ p.ready q }
+    let b = both (goal.at.clear_columns-requires c).After-crescent_row-row in record { left = in_map _ g.ny g.nx _ _ refl p.y_lt_ny p.over.long c.crescent_row-row.result.left b.0; right = in_map _ g.ny g.nx _ _ refl p.y_lt_ny p.over.long c.crescent_row-row.result.right b.1; ready = p.ready }
 
 pub returns : goal.returns
-returns c = crescent-row-is _ _ _ _ c.args.r _ _ _ _ _ _ refl c.crescent_row-row.ensures c.clear_span_logged-n.ensures c.clear_span_logged.ensures
+returns c = crescent-row-is _ _ _ _ c.args.r _ _ _ _ _ _ refl c.crescent_row-row.ensures refl c.clear_columns.ensures

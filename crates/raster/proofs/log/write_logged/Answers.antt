@@ -8,4 +8,4 @@ pub loop-cell-init : goal.loop-cell-init
 loop-cell-init c = going_none _ _ _ _
 
 pub loop-cell-preserved : goal.loop-cell-preserved
-loop-cell-preserved c = going_more _ _ _ _ _ _ _ c.loop-cell.invariant c.loop-cell-test.true refl
+loop-cell-preserved c = going_more _ _ _ _ _ _ _ c.loop-cell.invariant c.loop-cell-test.true (rw c.index_of-k.ensures refl)

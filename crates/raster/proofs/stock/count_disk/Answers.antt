@@ -1,4 +1,4 @@
--- `raster::stock::count_disk` meets its contract. The invariant: the count is what the rows so far leave, and no more is counted than cells before the row. Assumes nothing.
+-- `raster::stock::count_disk` meets its contract. The invariant: the count is what the rows so far leave, the next row begins at cell `base`, and no more is counted than cells before it. Assumes nothing.
 use mathlib.Core.Path.{refl}
 use Prim.Native.Nat.{◌*◌, ◌<◌}
 use native.Mathlib.Omega.{arith}
@@ -13,14 +13,21 @@ use Rattle.raster.proofs.stock.count_disk.Goals as goal
 use Rattle.raster.proofs.stock.count_disk.Goals.{After-chord}
 
 -- the row's columns lie in the map
-inside : (c : After-chord) → Inside (c.loop-j.j * c.args.g.nx) (length c.args.map.now) c.chord.result
-inside c = row-inside _ _ _ _ _ c.rows_of-first.ensures c.requires _ c.loop-j-test.true _ (chord_within _ _ _ _ _ c.chord.ensures c.requires.sides)
+inside : (c : After-chord) → Inside c.loop-j.base (length c.args.map.now) c.chord.result
+inside c = rw c.loop-j.invariant.1 (row-inside _ _ _ _ _ c.rows_of-first.ensures c.requires _ c.loop-j-test.true _ (chord_within _ _ _ _ _ c.chord.ensures c.requires.sides))
+
+pub returns-then-last-first : goal.returns-then-last-first
+unfolding count_disk
+returns-then-last-first c = disk-is _ _ _ _ _ _ _ c.rows_of-first.ensures (going_end _ _ _ _ _ _ (going_none _ _ _ _) (omega (arith, c.if-last-first.true)))
+
+pub overflow_mul-base : goal.overflow_mul-base
+overflow_mul-base c = omega (arith, row-ends _ _ _ _ _ c.rows_of-first.ensures c.requires c.rows_of-first.result.0 (omega (arith, c.if-last-first.false)), c.well_formed)
+
+pub overflow_add-base : goal.overflow_add-base
+overflow_add-base c = omega (arith, c.loop-j.invariant.1, row-ends _ _ _ _ _ c.rows_of-first.ensures c.requires _ c.loop-j-test.true, c.well_formed)
 
 pub loop-j-init : goal.loop-j-init
-loop-j-init c = (going_none _ _ _ _, omega arith)
-
-pub overflow_mul-j : goal.overflow_mul-j
-overflow_mul-j c = omega (arith, row-ends _ _ _ _ _ c.rows_of-first.ensures c.requires _ c.loop-j-test.true, c.well_formed)
+loop-j-init c = (going_none _ _ _ _, refl, omega arith)
 
 pub cells_of-from-requires : goal.cells_of-from-requires
 cells_of-from-requires c = inside_mono _ _ _ _ (omega arith) (inside (goal.at.cells_of-from-requires c).After-chord)
@@ -37,15 +44,16 @@ slice_bounds-count-end c = omega (arith, cells-lie _ _ _ _ c.cells_of-from.ensur
 pub overflow_add-n : goal.overflow_add-n
 overflow_add-n c =
     let e = span-counted _ _ _ _ _ _ (inside (goal.at.overflow_add-n c).After-chord) c.cells_of-from.ensures c.count-n.ensures in
-    let most = row-most _ _ _ _ _ _ (chord_within _ _ _ _ _ c.chord.ensures c.requires.sides) c.loop-j.invariant.1 e in
-    omega (arith, most, row-ends _ _ _ _ _ c.rows_of-first.ensures c.requires _ c.loop-j-test.true, c.well_formed)
+    let most = row-most _ _ _ _ _ _ (chord_within _ _ _ _ _ c.chord.ensures c.requires.sides) c.loop-j.invariant.2 e in
+    omega (arith, most, c.loop-j.invariant.1, row-ends _ _ _ _ _ c.rows_of-first.ensures c.requires _ c.loop-j-test.true, c.well_formed)
 
 pub loop-j-preserved : goal.loop-j-preserved
 loop-j-preserved c =
     let e = span-counted _ _ _ _ _ _ (inside (goal.at.loop-j-preserved c).After-chord) c.cells_of-from.ensures c.count-n.ensures in
-    let most = row-most _ _ _ _ _ _ (chord_within _ _ _ _ _ c.chord.ensures c.requires.sides) c.loop-j.invariant.1 e in (
-      going_more _ _ _ _ _ _ _ c.loop-j.invariant.0 c.loop-j-test.true (disk-row-is _ _ _ c.args.r _ _ _ _ _ refl c.chord.ensures e),
-      omega (arith, most, next_base c.loop-j.j c.args.g.nx _ refl),
+    let most = row-most _ _ _ _ _ _ (chord_within _ _ _ _ _ c.chord.ensures c.requires.sides) c.loop-j.invariant.2 e in (
+      going_more _ _ _ _ _ _ _ c.loop-j.invariant.0 c.loop-j-test.true (disk-row-is _ _ _ c.args.r _ _ _ _ _ c.loop-j.invariant.1 c.chord.ensures e),
+      next_base _ _ _ c.loop-j.invariant.1,
+      most,
     )
 
 pub overflow_add-j-end : goal.overflow_add-j-end

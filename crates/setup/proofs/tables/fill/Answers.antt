@@ -5,4 +5,4 @@ use Rattle.setup.proofs.tables.fill.Goals as goal
 
 pub returns : goal.returns
 returns c = let r = c.fill_rims in
-    tables_are c.args.s c.requires.sides _ _ (omega (arith, c.requires.in_bounds, r.auto.w)) c.fill.auto.t r.ensures c.fill.ensures.1
+    tables_are c.args.g c.requires.sides c.args.r c.args.wide _ _ _ (omega (arith, c.requires.in_bounds, r.auto.w)) c.fill.auto.t r.ensures c.fill.ensures.1

@@ -1,12 +1,7 @@
 -- `pocket::answers::PocketCountFromResultUsizeRefusal::from` meets its contract. Assumes nothing.
-use mathlib.Core.Path.{sym, ap}
-use Rattle.pocket.specs.Answers.{of_count}
+use mathlib.Core.Path.{ap, ◌∙◌}
+use Rattle.pocket.specs.Answers.{count_by}
 use Rattle.pocket.proofs.answers.PocketCountFromResultUsizeRefusal.from.Goals as goal
 
-pub returns-in-Ok : goal.returns-in-Ok
-unfolding of_count
-returns-in-Ok c = ap of_count (sym c.in-Ok.is)
-
-pub returns-in-Err : goal.returns-in-Err
-unfolding of_count
-returns-in-Err c = rw c.into.ensures (ap of_count (sym c.in-Err.is))
+pub returns : goal.returns
+returns c = c.of_count.ensures ∙ ap count_by c.numbered.ensures

@@ -1,12 +1,7 @@
 -- `pocket::answers::PocketNumberFromResultF64Refusal::from` meets its contract. Assumes nothing.
-use mathlib.Core.Path.{sym, ap}
-use Rattle.pocket.specs.Answers.{of_number}
+use mathlib.Core.Path.{ap, ◌∙◌}
+use Rattle.pocket.specs.Answers.{number_by}
 use Rattle.pocket.proofs.answers.PocketNumberFromResultF64Refusal.from.Goals as goal
 
-pub returns-in-Ok : goal.returns-in-Ok
-unfolding of_number
-returns-in-Ok c = ap of_number (sym c.in-Ok.is)
-
-pub returns-in-Err : goal.returns-in-Err
-unfolding of_number
-returns-in-Err c = rw c.into.ensures (ap of_number (sym c.in-Err.is))
+pub returns : goal.returns
+returns c = c.of_number.ensures ∙ ap number_by c.numbered.ensures
